@@ -1,0 +1,4 @@
+pub mod formers
+pub mod Value
+pub mod SlotPlaces
+pub mod Pairs

@@ -1,0 +1,23 @@
+-- Where a number stands in a list of numbers and slots, or would stand.
+use Rattle.std.specs.Prelude.{◌==◌, ◌+◌, ℕ, List, [], ◌∷◌, Option, Some, None, Result, Ok, Err, option_map, if◌then◌else◌, nat_lt}
+use Rattle.schema.specs.declared.value.Slot.{Slot}
+
+-- an index counted from one place further left
+abbrev pub shifted : Result ℕ ℕ → Result ℕ ℕ
+shifted (Ok i) = Ok (i + 1)
+shifted (Err i) = Err (i + 1)
+
+-- an index counted from `k` places further left
+abbrev pub moved : ℕ → Result ℕ ℕ → Result ℕ ℕ
+moved k (Ok i) = Ok (k + i)
+moved k (Err i) = Err (k + i)
+
+-- the index of a number, or that at which it belongs
+abbrev pub place_in : List (ℕ × Slot) → ℕ → Result ℕ ℕ
+place_in [] n = Err 0
+place_in (e ∷ es) n = if nat_lt e.0 n then shifted (place_in es n) else (if e.0 == n then Ok 0 else Err 0)
+
+-- the index of the first slot of a number
+abbrev pub first_in : List (ℕ × Slot) → ℕ → Option ℕ
+first_in [] n = None
+first_in (e ∷ es) n = if e.0 == n then Some 0 else option_map (λ i. i + 1) (first_in es n)

@@ -1,0 +1,5 @@
+//! What a descriptor set declares (descriptor.proto), linked by numbers.
+
+pub mod enums;
+pub mod fields;
+pub mod messages;
