@@ -1,0 +1,106 @@
+-- Which types are sound: what a descriptor set that protoc accepts can declare (descriptor.proto).
+use Rattle.std.specs.Prelude.{◌≡◌, ◌≢◌, ◌<◌, ◌≤◌, ◌||◌, ℕ, Bool, true, List, [], length, map, codes, nat_eq, Option, Some, None}
+use Rattle.std.specs.List.{AllByRecursion, IsDistinct}
+use Rattle.std.specs.Str.{bytes_eq}
+use Rattle.schema.specs.Types.{field_in}
+use Rattle.schema.specs.declared.types.enums.EnumId.{EnumId}
+use Rattle.schema.specs.declared.types.enums.EnumType.{EnumType}
+use Rattle.schema.specs.declared.types.enums.EnumValue.{EnumValue}
+use Rattle.schema.specs.declared.types.fields.Field.{Field}
+use Rattle.schema.specs.declared.types.fields.Kind.{Kind}
+use Rattle.schema.specs.declared.types.fields.Kind.TheVariants.{One, Message}
+use Rattle.schema.specs.declared.types.fields.Presence.{Presence}
+use Rattle.schema.specs.declared.types.fields.Presence.TheVariants.{Implicit}
+use Rattle.schema.specs.declared.types.fields.Scalar.{Scalar}
+use Rattle.schema.specs.declared.types.fields.Scalar.TheVariants.{Int32, Int64, Uint32, Uint64, Bool as BoolOf, Text as TextOf, Bytes as BytesOf, Enumeration}
+use Rattle.schema.specs.declared.types.fields.Shape.{Shape}
+use Rattle.schema.specs.declared.types.fields.Shape.TheVariants.{Single, Member, Many, Map}
+use Rattle.schema.specs.declared.types.messages.Known.{Known}
+use Rattle.schema.specs.declared.types.messages.Known.TheVariants.{Plain, Timestamp, Duration, FieldMask, Wrapper}
+use Rattle.schema.specs.declared.types.messages.MessageType.{MessageType}
+use Rattle.schema.specs.declared.types.messages.TypeId.{TypeId}
+use Rattle.schema.specs.declared.types.messages.Types.{Types}
+
+-- an enum that is named is declared
+abbrev pub IsScalarIn : Types → Scalar → Type 0
+IsScalarIn types (Enumeration id) = id.0 < length types.enums
+IsScalarIn types _ = Unit {0}
+
+-- a type that is named is declared
+abbrev pub IsKindIn : Types → Kind → Type 0
+IsKindIn types (One s) = IsScalarIn types s
+IsKindIn types (Message id) = id.0 < length types.messages
+
+-- a map's key is an integer of any form, a bool or a string
+abbrev pub IsKeyKind : Scalar → Type 0
+IsKeyKind (Enumeration id) = ⊥
+IsKeyKind BytesOf = ⊥
+IsKeyKind _ = Unit {0}
+
+-- a list of this kind can be packed: all scalars but strings and bytes
+abbrev pub IsPackable : Kind → Type 0
+IsPackable (One TextOf) = ⊥
+IsPackable (One BytesOf) = ⊥
+IsPackable (One _) = Unit {0}
+IsPackable (Message id) = ⊥
+
+-- what the shape of a field asks of its presence, and of a map the kind of its keys
+abbrev pub FitsShape : Shape → Kind → Presence → Type 0
+FitsShape Single (Message id) p = p ≢ Implicit
+FitsShape Single (One s) p = Unit {0}
+FitsShape (Member k) kind p = p ≢ Implicit
+FitsShape Many kind p = p ≡ Implicit
+FitsShape (Map s) kind p = (p ≡ Implicit) × IsKeyKind s
+
+-- one field of a message
+pub record IsSoundField (types : Types) (f : Field) : Type 0 where
+  pub low : 1 ≤ f.number
+  pub high : f.number ≤ 536870911
+  pub kind : IsKindIn types f.kind
+  pub shape : FitsShape f.shape f.kind f.presence
+  pub packed : f.packed ≡ true → (f.shape ≡ Many) × IsPackable f.kind
+
+-- one key, a name or a JSON name, is that of both fields
+abbrev pub share_key : Field → Field → Bool
+share_key f g = bytes_eq f.name g.name || bytes_eq f.name g.json || bytes_eq f.json g.name || bytes_eq f.json g.json
+
+-- a field of a well-known type: implicit, with this name, kind and shape
+abbrev pub IsKnownField : Option Field → List ℕ → Scalar → Shape → Type 0
+IsKnownField None name scalar shape = ⊥
+IsKnownField (Some f) name scalar shape = (f.name ≡ name) × (f.kind ≡ One scalar) × (f.shape ≡ shape) × (f.presence ≡ Implicit)
+
+-- a scalar that has a wrapper (wrappers.proto)
+abbrev pub IsWrapped : Scalar → Type 0
+IsWrapped BoolOf = Unit {0}
+IsWrapped Int32 = Unit {0}
+IsWrapped Int64 = Unit {0}
+IsWrapped Uint32 = Unit {0}
+IsWrapped Uint64 = Unit {0}
+IsWrapped TextOf = Unit {0}
+IsWrapped BytesOf = Unit {0}
+IsWrapped _ = ⊥
+
+-- a well-known type has exactly its fields (timestamp.proto, duration.proto, field_mask.proto, wrappers.proto)
+abbrev pub HasKnownFields : Known → List Field → Type 0
+HasKnownFields Plain fs = Unit {0}
+HasKnownFields Timestamp fs = (length fs ≡ 2) × IsKnownField (field_in fs 1) (codes "seconds") Int64 Single × IsKnownField (field_in fs 2) (codes "nanos") Int32 Single
+HasKnownFields Duration fs = (length fs ≡ 2) × IsKnownField (field_in fs 1) (codes "seconds") Int64 Single × IsKnownField (field_in fs 2) (codes "nanos") Int32 Single
+HasKnownFields FieldMask fs = (length fs ≡ 1) × IsKnownField (field_in fs 1) (codes "paths") TextOf Many
+HasKnownFields Wrapper fs = (length fs ≡ 1) × ((s : Scalar) × IsWrapped s × IsKnownField (field_in fs 1) (codes "value") s Single)
+
+-- one message type
+pub record IsSoundMessage (types : Types) (m : MessageType) : Type 0 where
+  pub fields : AllByRecursion (IsSoundField types) m.fields
+  pub numbers : IsDistinct nat_eq (map (λ f. f.number) m.fields)
+  pub keys : IsDistinct share_key m.fields
+  pub known : HasKnownFields m.known m.fields
+
+-- one enum type: it has a value, and no name twice
+pub record IsSoundEnum (e : EnumType) : Type 0 where
+  pub some : e.values ≢ []
+  pub names : IsDistinct bytes_eq (map (λ v. v.name) e.values)
+
+-- all types
+pub record IsSound (types : Types) : Type 0 where
+  pub messages : AllByRecursion (IsSoundMessage types) types.messages
+  pub enums : AllByRecursion IsSoundEnum types.enums

@@ -1,0 +1,5 @@
+pub mod PowerLemmas
+pub mod SkipLemmas
+pub mod GroupLemmas
+pub mod ExitLemmas
+pub mod TextLemmas

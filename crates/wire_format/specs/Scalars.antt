@@ -1,0 +1,69 @@
+-- What a payload is as a scalar (the encoding guide, "Encoding Field Types"): int32, int64 and enums in two's
+-- complement, cut to 32 bits where the field has 32; sint by zigzag; fixed in four or eight bytes.
+use Rattle.std.specs.Prelude.{◌==◌, ◌%◌, ◌^◌, ◌/◌, ◌-◌, ℕ, ℤ, pos, negsuc, zero, suc, true, false, Bool, List, [], ◌∷◌, Option, Some, None, Result, Ok, Err, if◌then◌else◌}
+use Rattle.std.specs.Int.{w32, w64, cast_signed}
+use Rattle.schema.specs.Layers.{ItemLayer}
+use Rattle.schema.specs.declared.value.Item.TheOpen.{Number, Truth, Text, Bytes, Message}
+use Rattle.schema.specs.declared.value.Item.{roll-Item, Item}
+use Rattle.schema.specs.declared.types.fields.Scalar.{Scalar}
+use Rattle.schema.specs.declared.types.fields.Scalar.TheVariants.{Int32, Int64, Uint32, Uint64, Sint32, Sint64, Fixed32, Fixed64, Sfixed32, Sfixed64, Bool as BoolOf, Text as TextOf, Bytes as BytesOf, Enumeration}
+use Rattle.wire_format.specs.declared.fault.WireKind.{WireKind}
+use Rattle.wire_format.specs.WireRecord.{Payload, Piece, number, eight, sized, four, payload_in}
+
+-- the signed number that a zigzag number stands for
+abbrev pub unzigzag : ℕ → ℤ
+unzigzag n = if n % 2 == 0 then pos (n / 2) else negsuc (n / 2)
+
+-- a varint as a number of the kind
+abbrev pub number_of : Scalar → ℕ → ItemLayer
+number_of Int32 n = Number (cast_signed w32 (n % 2 ^ 32))
+number_of (Enumeration id) n = Number (cast_signed w32 (n % 2 ^ 32))
+number_of Int64 n = Number (cast_signed w64 n)
+number_of Uint32 n = Number (pos (n % 2 ^ 32))
+number_of Sint32 n = Number (unzigzag (n % 2 ^ 32))
+number_of Sint64 n = Number (unzigzag n)
+number_of BoolOf n = Truth (if n == 0 then false else true)
+number_of _ n = Number (pos n)
+
+-- the wire type of a scalar kind
+abbrev pub scalar_wire : Scalar → ℕ
+scalar_wire Fixed32 = 5
+scalar_wire Sfixed32 = 5
+scalar_wire Fixed64 = 1
+scalar_wire Sfixed64 = 1
+scalar_wire TextOf = 2
+scalar_wire BytesOf = 2
+scalar_wire _ = 0
+
+-- what a payload is as a scalar, if it fits
+abbrev pub scalar_of : Scalar → Payload → Option ItemLayer
+scalar_of TextOf (sized bs) = Some (Text bs)
+scalar_of BytesOf (sized bs) = Some (Bytes bs)
+scalar_of Fixed32 (four n) = Some (Number (pos n))
+scalar_of Sfixed32 (four n) = Some (Number (cast_signed w32 n))
+scalar_of Fixed64 (eight n) = Some (Number (pos n))
+scalar_of Sfixed64 (eight n) = Some (Number (cast_signed w64 n))
+scalar_of s (number n) = if scalar_wire s == 0 then Some (number_of s n) else None
+scalar_of _ _ = None
+
+-- a list of the kind can be packed
+abbrev pub is_packable : Scalar → Bool
+is_packable s = if scalar_wire s == 2 then false else true
+
+-- the default of a scalar kind
+abbrev pub default_of : Scalar → ItemLayer
+default_of BoolOf = Truth false
+default_of TextOf = Text []
+default_of BytesOf = Bytes []
+default_of _ = Number (pos 0)
+
+-- an item and what goes on behind it
+abbrev pub and_elements : Scalar → Result Piece WireKind → (ℕ → List ItemLayer) → List ItemLayer
+and_elements s (Err e) go = []
+and_elements s (Ok p) go = elim (scalar_of s p.payload) [ None ↦ go (p.to - 1) | Some i ↦ i ∷ go (p.to - 1) ]
+
+-- the items of a packed payload behind `skip` bytes
+abbrev pub elements : Scalar → ℕ → List ℕ → List ItemLayer
+elements s skip [] = []
+elements s (suc skip) (b ∷ bs) = elements s skip bs
+elements s zero (b ∷ bs) = and_elements s (payload_in (scalar_wire s) (b ∷ bs)) (λ skip. elements s skip bs)

@@ -1,0 +1,81 @@
+-- The first fault of bytes as a message of a type: of its records, of the payloads of its message fields in every
+-- level, replaced later or not, and of its text. The least place counts, which is the first from the left.
+use Rattle.std.specs.Prelude.{◌==◌, ◌+◌, ◌-◌, ◌&&◌, ◌||◌, ℕ, zero, suc, true, false, Bool, List, [], ◌∷◌, Option, Some, None, Result, Ok, Err, if◌then◌else◌, slice_get, unwrap_or, option_map}
+use Rattle.std.specs.Str.{is_utf8}
+use Rattle.schema.specs.Types.{field_in, fields_of}
+use Rattle.schema.specs.declared.types.fields.Field.{Field}
+use Rattle.schema.specs.declared.types.fields.Kind.{Kind}
+use Rattle.schema.specs.declared.types.fields.Kind.TheVariants.{One as OneOf, Message as MessageOf}
+use Rattle.schema.specs.declared.types.fields.Presence.TheVariants.{Explicit}
+use Rattle.schema.specs.declared.types.fields.Scalar.{Scalar}
+use Rattle.schema.specs.declared.types.fields.Scalar.TheVariants.{Text as TextOf}
+use Rattle.schema.specs.declared.types.fields.Shape.{Shape}
+use Rattle.schema.specs.declared.types.fields.Shape.TheVariants.{Single, Member, Many, Map as MapOf}
+use Rattle.schema.specs.declared.types.messages.TypeId.{TypeId}
+use Rattle.schema.specs.declared.types.messages.Types.{Types}
+use Rattle.wire_format.specs.declared.fault.WireKind.{WireKind}
+use Rattle.wire_format.specs.declared.fault.WireKind.TheVariants.{TooDeep}
+use Rattle.wire_format.specs.WireRecord.{Record, Payload, Piece, sized, payload_in, record_in}
+use Rattle.wire_format.specs.Scalars.{scalar_wire, is_packable}
+
+-- a fault with its place
+pub data Fault : Type 0 where
+  Wire : (place : ℕ) (kind : WireKind) → Fault
+  NotUtf8 : (place : ℕ) → Fault
+
+-- an entry of a map is a message with a key and a value
+abbrev pub entry_fields : Scalar → Kind → List Field
+entry_fields s kind =
+    record { name = []; json = []; number = 1; kind = OneOf s; shape = Single; presence = Explicit; packed = false }
+    ∷ record { name = []; json = []; number = 2; kind = kind; shape = Single; presence = Explicit; packed = false } ∷ []
+
+-- a kind is a message
+abbrev pub is_message : Kind → Bool
+is_message (MessageOf id) = true
+is_message (OneOf s) = false
+
+-- the first of two faults
+abbrev pub or_else : Option Fault → Option Fault → Option Fault
+or_else None g = g
+or_else (Some f) g = Some f
+
+-- an element's fault, or what goes on behind it
+abbrev pub and_element_fault : ℕ → Result Piece WireKind → (ℕ → Option Fault) → Option Fault
+and_element_fault place (Err kind) go = Some (Wire place kind)
+and_element_fault place (Ok p) go = go (p.to - 1)
+
+-- the first fault of a packed payload behind `skip` bytes
+abbrev pub element_fault : Scalar → ℕ → ℕ → List ℕ → Option Fault
+element_fault s place skip [] = None
+element_fault s place (suc skip) (b ∷ bs) = element_fault s (place + 1) skip bs
+element_fault s place zero (b ∷ bs) = and_element_fault place (payload_in (scalar_wire s) (b ∷ bs)) (λ skip. element_fault s (place + 1) skip bs)
+
+-- the fault of a payload of a field, where `inner` gives that of a message and `k` levels are left: with none, no
+-- message may stand here; with one, no entry of a map whose values are messages
+abbrev pub payload_fault : (List Field → ℕ → List ℕ → Option Fault) → Types → ℕ → Shape → Kind → ℕ → ℕ → Payload → Option Fault
+payload_fault inner types k (MapOf s) kind place from (sized bs) = if k == 0 || (k == 1 && is_message kind) then Some (Wire place TooDeep) else inner (entry_fields s kind) from bs
+payload_fault inner types k shape (MessageOf id) place from (sized bs) = if k == 0 then Some (Wire place TooDeep) else inner (fields_of types id) from bs
+payload_fault inner types k shape (OneOf TextOf) place from (sized bs) = if is_utf8 bs then None else Some (NotUtf8 place)
+payload_fault inner types k Many (OneOf s) place from (sized bs) = if is_packable s then element_fault s from 0 bs else None
+payload_fault inner types k _ _ place from _ = None
+
+-- the fault of a record of the field that its number has
+abbrev pub field_fault : (List Field → ℕ → List ℕ → Option Fault) → Types → ℕ → Option Field → ℕ → Record → Option Fault
+field_fault inner types k None place r = None
+field_fault inner types k (Some f) place r = payload_fault inner types k f.shape f.kind place (place + r.head) r.payload
+
+-- a record's fault, its payload's, or what goes on behind it
+abbrev pub and_fault : ℕ → (Record → Option Fault) → Result Record (ℕ × WireKind) → (ℕ → Option Fault) → Option Fault
+and_fault place check (Err e) go = Some (Wire (place + e.0) e.1)
+and_fault place check (Ok r) go = or_else (check r) (go (r.size - 1))
+
+-- the first fault of records and their payloads behind `skip` bytes
+abbrev pub records_fault : (ℕ → Record → Option Fault) → ℕ → ℕ → ℕ → List ℕ → Option Fault
+records_fault check k place skip [] = None
+records_fault check k place (suc skip) (b ∷ bs) = records_fault check k (place + 1) skip bs
+records_fault check k place zero (b ∷ bs) = and_fault place (check place) (record_in k (b ∷ bs)) (λ skip. records_fault check k (place + 1) skip bs)
+
+-- the first fault of the bytes at a place, as a message with these fields, in k more levels
+unfoldable pub first_fault : ℕ → Types → List Field → ℕ → List ℕ → Option Fault
+first_fault zero types fields place bytes = None
+first_fault (suc k) types fields place bytes = records_fault (λ at r. field_fault (first_fault k types) types k (field_in fields r.number) at r) k place 0 bytes

@@ -1,0 +1,121 @@
+//! The records of one level of a message, one after another (the encoding guide, "Message
+//! Structure").
+ghost use Rattle.std.specs.Prelude.{◌≡◌, ◌≤◌, ◌+◌, length, option_map, IfSome};
+ghost use Rattle.wire_format.specs.PlainRecords.{plain_record, is_plain as is_plain_tag};
+ghost use Rattle.wire_format.specs.RecordReader.{IsNext, wire_type as wire_type_of};
+ghost use Rattle.wire_format.specs.RecordViews.{found_of, payload_of, sized_len};
+ghost use Rattle.wire_format.specs.WireRecord.{tag_in};
+
+use crate::fault::{WireFault, WireKind};
+use crate::groups::{Found, record_of};
+use crate::payload::{Payload, tag_of};
+use crate::varint::varint_len;
+use std::marker::Model;
+
+/// Where a record lies. All offsets are from the first byte of what is read.
+#[derive(Debug, Clone, Copy, PartialEq, Eq)]
+pub struct Record {
+    /// The field number.
+    pub number: u32,
+    /// The wire type: 0 VARINT, 1 I64, 2 LEN, 3 a group, 5 I32.
+    pub wire: u8,
+    /// The offset of the record's first byte.
+    pub place: u64,
+    /// The offset of the payload's first byte.
+    pub from: u64,
+    /// The offset behind the payload's last byte.
+    pub to: u64,
+}
+
+/// The wire type of a payload.
+fn wire_type(payload: Payload<'_>) -> u8
+    ensures { result ≡ wire_type_of (payload_of payload.entry) }
+{
+    match payload {
+        Payload::Varint(_) => 0,
+        Payload::I64(_) => 1,
+        Payload::Len(_) => 2,
+        Payload::Group => 3,
+        Payload::I32(_) => 5,
+    }
+}
+
+/// True where the tag at the front is of VARINT or LEN and in its shortest form.
+fn is_plain(bytes: &[u8]) -> bool
+    ensures { result ≡ is_plain_tag (tag_in bytes.now) }
+{
+    match tag_of(bytes) {
+        Ok((number, wire, len)) => {
+            (wire == 0 || wire == 2) && len == varint_len(u64::from(number) * 8 + u64::from(wire))
+        }
+        Err(_) => false,
+    }
+}
+
+/// The record at the front, of these wire types and with such a tag.
+#[tactic(auto, unfolding(crate::specs::PlainRecords::plain_record))]
+fn plain_of(bytes: &[u8]) -> Option<Found<'_>>
+    ensures value { option_map found_of result ≡ plain_record bytes.now }
+    ensures within { IfSome result (λ r. (r.head + sized_len r.payload ≤ r.size) × (r.size ≤ length bytes.now)) }
+{
+    if !is_plain(bytes) {
+        return None;
+    }
+    match record_of(bytes, 0) {
+        Ok(found) => Some(found),
+        Err(_) => None,
+    }
+}
+
+/// The records of one level, one after another. So far only VARINT and LEN records with tags in
+/// their shortest form are read: at any other it stops for good.
+#[derive(Drop)]
+pub struct Records<'a> {
+    bytes: &'a [u8],
+    at: usize,
+}
+
+impl<'a> Model for Records<'a> {
+    ghost use Rattle.std.specs.Prelude.{List, ℕ, length, ◌≤◌};
+
+    ghost Value = { List ℕ × ℕ };
+
+    ghost view = { λ r. (r.bytes.now, r.at) };
+
+    ghost invariant = { λ r. r.at ≤ length r.bytes.now };
+}
+
+impl<'a> Records<'a> {
+    /// A reader at the first byte. Contracts see the bytes and where the reader stands in them.
+    pub fn new(bytes: &'a [u8]) -> Records<'a>
+        ensures { result ≡ (bytes.now, 0) }
+    {
+        Records { bytes, at: 0 }
+    }
+
+    /// The next record, or None at the end. A fault changes nothing, so that it comes again.
+    pub fn next(&mut self) -> Option<Result<Record, WireFault>>
+        ensures { IsNext self.old result self.new }
+    {
+        if self.at == self.bytes.len() {
+            return None;
+        }
+        let place = self.at;
+        match plain_of(&self.bytes[place..]) {
+            Some(found) => {
+                self.at = place + found.size;
+                Some(Ok(Record {
+                    number: found.number,
+                    wire: wire_type(found.payload),
+                    place: place as u64,
+                    from: (place + found.head) as u64,
+                    to: (place + found.size) as u64,
+                }))
+            }
+            None => Some(Err(WireFault {
+                place: place as u64,
+                kind: WireKind::BadTag,
+            })),
+        }
+    }
+}
