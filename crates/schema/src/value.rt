@@ -1,9 +1,9 @@
 //! What a message holds: a finite map from field numbers to slots, in a form that leads back to
 //! itself. Contracts see the fields by `slot_at`, and the order of the numbers by `RiseFrom`.
-ghost use Rattle.std.specs.Prelude.{◌≡◌, ◌==◌, ◌<◌, ℕ, [], if◌then◌else◌, OnOk, OnErr};
+ghost use Rattle.std.specs.Prelude.{◌≡◌, ◌≢◌, ◌==◌, ◌<◌, ℕ, [], if◌then◌else◌, OnOk, OnErr};
 ghost use Rattle.std.specs.Option.{option_copied};
 ghost use Rattle.schema.specs.SlotPlaces.{place_in, first_in};
-ghost use Rattle.schema.specs.Value.{slots_of, slot_at, RiseFrom, with_slot, without_slot};
+ghost use Rattle.schema.specs.Value.{slots_of, slot_at, slot_in, RiseFrom, with_slot, without_slot};
 
 use crate::blob::Blob;
 use crate::key::Key;
@@ -96,6 +96,21 @@ fn put(fields: &mut List<(u32, Slot)>, number: u32, slot: Slot) -> Result<(), No
     }
 }
 
+/// Removes one slot, if it is there, and gives it.
+#[tactic(auto, using(crate::proofs::PlaceLemmas::position_is, crate::proofs::PlaceLemmas::first_remove))]
+fn remove(fields: &mut List<(u32, Slot)>, number: u32) -> Option<Slot>
+    ensures slot { result ≡ slot_in fields.old number }
+    ensures fields { fields.new ≡ without_slot fields.old number }
+{
+    match position_of(fields.as_slice(), number) {
+        Some(at) => {
+            let (_, slot) = fields.remove(at);
+            Some(slot)
+        }
+        None => None,
+    }
+}
+
 impl Value {
     /// No fields: the empty message. Takes no memory.
     pub fn new(alloc: Global) -> Value
@@ -137,17 +152,13 @@ impl Value {
     }
 
     /// Removes the slot of a field number and gives it; leaves all others.
-    #[tactic(auto, using(crate::proofs::PlaceLemmas::position_is, crate::proofs::PlaceLemmas::first_remove))]
     pub fn clear(&mut self, number: u32) -> Option<Slot>
         ensures slot { result ≡ slot_at self.old number }
         ensures fields { slots_of self.new ≡ without_slot (slots_of self.old) number }
+        ensures others { (q : ℕ) → number ≢ q → slot_at self.new q ≡ slot_at self.old q }
+        ensures gone { RiseFrom 0 (slots_of self.old) → slot_at self.new number ≡ None }
+        ensures rising { RiseFrom 0 (slots_of self.old) → RiseFrom 0 (slots_of self.new) }
     {
-        match position_of(self.fields.as_slice(), number) {
-            Some(at) => {
-                let (_, slot) = self.fields.remove(at);
-                Some(slot)
-            }
-            None => None,
-        }
+        remove(&mut self.fields, number)
     }
 }

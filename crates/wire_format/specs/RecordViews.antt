@@ -3,7 +3,7 @@ use Rattle.std.specs.Prelude.{ℕ, length}
 use Rattle.wire_format.specs.WireRecord.{Tag, Piece, Payload, Record, number, eight, sized, group, four}
 use Rattle.wire_format.specs.declared.payload.Payload as found
 use Rattle.wire_format.specs.declared.payload.Payload.TheVariants as found_as
-use Rattle.wire_format.specs.declared.groups.Found.{Found}
+use Rattle.wire_format.specs.declared.groups.RawRecord.{RawRecord}
 
 -- a number, a wire type and a length as a tag
 abbrev pub tag_of : ℕ × ℕ × ℕ → Tag
@@ -22,8 +22,8 @@ abbrev pub piece_of : found.Payload × ℕ × ℕ → Piece
 piece_of p = record { payload = payload_of p.0; from = p.1; to = p.2 }
 
 -- a record, with its bytes
-abbrev pub found_of : Found → Record
-found_of f = record { number = f.number; payload = payload_of f.payload; head = f.head; size = f.size }
+abbrev pub raw_of : RawRecord → Record
+raw_of f = record { number = f.number; payload = payload_of f.payload; head = f.head; size = f.size }
 
 -- how many bytes of a length-delimited payload follow its length
 abbrev pub sized_len : found.Payload → ℕ

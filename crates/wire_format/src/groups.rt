@@ -1,15 +1,15 @@
 //! Records at the front of bytes, groups with all that is in them (the encoding guide, "Groups").
 ghost use Rattle.std.specs.Prelude.{◌≡◌, ◌≤◌, ◌+◌, length, IfOk, IfErr, IfSome};
 ghost use Rattle.wire_format.specs.Outcome.{Gives};
-ghost use Rattle.wire_format.specs.RecordViews.{found_of, sized_len};
+ghost use Rattle.wire_format.specs.RecordViews.{raw_of, sized_len};
 ghost use Rattle.wire_format.specs.WireRecord.{tag_in, record_with as record_with_of, group_in, end_of as end_of_tag, record_in};
 
 use crate::fault::WireKind;
 use crate::payload::{Payload, payload_of, tag_of};
 
-/// A record at the front of bytes.
+/// A record at the front of bytes, with its payload in place.
 #[derive(Debug, Clone, Copy)]
-pub(crate) struct Found<'a> {
+pub struct RawRecord<'a> {
     /// The field number.
     pub number: u32,
     /// What follows the tag.
@@ -39,8 +39,8 @@ fn end_of(bytes: &[u8], number: u32) -> Option<usize>
 /// The record at the front, with groups in this many levels.
 #[cycle(record)]
 #[tactic(auto, unfolding(crate::specs::WireRecord::record_with))]
-fn record_with(bytes: &[u8], level: u32) -> Result<Found<'_>, Option<(usize, WireKind)>>
-    ensures value { Gives found_of result (record_with_of (group_in level) bytes.now) }
+fn record_with(bytes: &[u8], level: u32) -> Result<RawRecord<'_>, Option<(usize, WireKind)>>
+    ensures value { Gives raw_of result (record_with_of (group_in level) bytes.now) }
     ensures within { IfOk result (λ r. (1 ≤ r.size) × (r.head + sized_len r.payload ≤ r.size) × (r.size ≤ length bytes.now)) }
     ensures near { IfErr result (λ stop. IfSome stop (λ e. e.0 ≤ length bytes.now)) }
 {
@@ -50,7 +50,7 @@ fn record_with(bytes: &[u8], level: u32) -> Result<Found<'_>, Option<(usize, Wir
             let (_, rest) = bytes.split_at(len);
             if wire == 3 {
                 let size = group_of(rest, number, len, level)?;
-                return Ok(Found {
+                return Ok(RawRecord {
                     number,
                     payload: Payload::Group,
                     head: len,
@@ -62,7 +62,7 @@ fn record_with(bytes: &[u8], level: u32) -> Result<Found<'_>, Option<(usize, Wir
             }
             match payload_of(wire, rest) {
                 Err(kind) => Err(Some((0, kind))),
-                Ok((payload, from, to)) => Ok(Found {
+                Ok((payload, from, to)) => Ok(RawRecord {
                     number,
                     payload,
                     head: len + from,
@@ -107,8 +107,8 @@ fn group_of(
 
 /// The record at the front, or what is wrong and where.
 #[tactic(auto, unfolding(crate::specs::WireRecord::record_in))]
-pub(crate) fn record_of(bytes: &[u8], level: u32) -> Result<Found<'_>, (usize, WireKind)>
-    ensures value { Gives found_of result (record_in level bytes.now) }
+pub(crate) fn record_of(bytes: &[u8], level: u32) -> Result<RawRecord<'_>, (usize, WireKind)>
+    ensures value { Gives raw_of result (record_in level bytes.now) }
     ensures within { IfOk result (λ r. (1 ≤ r.size) × (r.head + sized_len r.payload ≤ r.size) × (r.size ≤ length bytes.now)) }
     ensures near { IfErr result (λ e. e.0 ≤ length bytes.now) }
 {

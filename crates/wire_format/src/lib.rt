@@ -14,4 +14,6 @@ mod varint;
 
 pub use encoder::encode;
 pub use fault::{WireFault, WireKind};
-pub use records::{Record, Records};
+pub use groups::RawRecord;
+pub use payload::Payload;
+pub use records::{Record, Records, first_record};

@@ -3,11 +3,11 @@
 ghost use Rattle.std.specs.Prelude.{◌≡◌, ◌≤◌, ◌+◌, length, option_map, IfSome};
 ghost use Rattle.wire_format.specs.PlainRecords.{plain_record, is_plain as is_plain_tag};
 ghost use Rattle.wire_format.specs.RecordReader.{IsNext, wire_type as wire_type_of};
-ghost use Rattle.wire_format.specs.RecordViews.{found_of, payload_of, sized_len};
+ghost use Rattle.wire_format.specs.RecordViews.{raw_of, payload_of, sized_len};
 ghost use Rattle.wire_format.specs.WireRecord.{tag_in};
 
 use crate::fault::{WireFault, WireKind};
-use crate::groups::{Found, record_of};
+use crate::groups::{RawRecord, record_of};
 use crate::payload::{Payload, tag_of};
 use crate::varint::varint_len;
 use std::marker::Model;
@@ -52,11 +52,11 @@ fn is_plain(bytes: &[u8]) -> bool
     }
 }
 
-/// The record at the front, of these wire types and with such a tag.
+/// The whole record at the front, of VARINT or LEN and with a tag in its shortest form.
 #[tactic(auto, unfolding(crate::specs::PlainRecords::plain_record))]
-fn plain_of(bytes: &[u8]) -> Option<Found<'_>>
-    ensures value { option_map found_of result ≡ plain_record bytes.now }
-    ensures within { IfSome result (λ r. (r.head + sized_len r.payload ≤ r.size) × (r.size ≤ length bytes.now)) }
+pub fn first_record(bytes: &[u8]) -> Option<RawRecord<'_>>
+    ensures value { option_map raw_of result ≡ plain_record bytes.now }
+    ensures within { IfSome result (λ r. (1 ≤ r.size) × (r.head + sized_len r.payload ≤ r.size) × (r.size ≤ length bytes.now)) }
 {
     if !is_plain(bytes) {
         return None;
@@ -101,7 +101,7 @@ impl<'a> Records<'a> {
             return None;
         }
         let place = self.at;
-        match plain_of(&self.bytes[place..]) {
+        match first_record(&self.bytes[place..]) {
             Some(found) => {
                 self.at = place + found.size;
                 Some(Ok(Record {

@@ -1,6 +1,6 @@
 use Rattle.std.proofs.Common.{◌≡◌, ◌∙◌, ◌+◌, ◌-◌, ap, sym, Ok, Err, Some, None, ℕ, Result, rules, arith}
 use Rattle.wire_format.specs.WireRecord.{onward, group_in, group_rest, Stop}
-use Rattle.wire_format.specs.RecordViews.{found_of}
+use Rattle.wire_format.specs.RecordViews.{raw_of}
 use Rattle.wire_format.specs.declared.fault.WireKind.{WireKind}
 use Rattle.wire_format.proofs.GroupLemmas.{group_none, group_open, group_ends, group_stops, group_goes_on, add_twice, group_done}
 use Rattle.wire_format.proofs.groups.+record.Goals as goal
@@ -18,7 +18,7 @@ pub group_of-loop-at-preserved : goal.group_of-loop-at-preserved
 group_of-loop-at-preserved t c = record {
   some = c.loop-at.invariant.some;
   within = omega (arith, c.in-Ok.ensures.within);
-  told = group_goes_on (group_in (c.args.level - 1)) c.args.number c.args.rest.now _ c.loop-at.at c.loop-at-test.true c.loop-at.invariant.told _ c.split_at.ensures.back (found_of c.in-Ok.found) (omega (arith, c.in-Ok.ensures.within)) c.in-None.ensures.value c.in-Ok.ensures.value;
+  told = group_goes_on (group_in (c.args.level - 1)) c.args.number c.args.rest.now _ c.loop-at.at c.loop-at-test.true c.loop-at.invariant.told _ c.split_at.ensures.back (raw_of c.in-Ok.found) (omega (arith, c.in-Ok.ensures.within)) c.in-None.ensures.value c.in-Ok.ensures.value;
 }
 
 pub group_of-returns-in-Err-None-clause-value : goal.group_of-returns-in-Err-None-clause-value

@@ -1,0 +1,5 @@
+pub mod Causes
+pub mod Sources
+pub mod Sinks
+pub mod Policies
+pub mod FixedOutside

@@ -1,0 +1,61 @@
+//! A sink in memory.
+ghost use Rattle.std.specs.Prelude.{◌≡◌, ◌≤◌, vec_len, vec_capacity};
+
+use crate::numbered::Numbered;
+use crate::sink::{Sink, Wrote};
+use schema::{List, NoMemory};
+use std::alloc::Global;
+
+/// Room in memory, reserved when it is made. A write takes as much as the rest of the room holds;
+/// only the calls whose numbers it was given fail, and those of a piece that is not empty where no
+/// room is left.
+#[derive(Debug, Drop)]
+pub struct FixedSink {
+    taken: Vec<u8>,
+    room: usize,
+    calls: Numbered,
+    ghost in_room: { vec_len taken ≤ room },
+    ghost reserved: { room ≤ vec_capacity taken },
+}
+
+impl FixedSink {
+    /// Room for so many bytes; `fails` has the numbers of the calls that fail, counted from 0.
+    pub fn new(alloc: Global, room: usize, fails: List<u64>) -> Result<FixedSink, NoMemory> {
+        Ok(FixedSink {
+            taken: Vec::with_capacity(alloc, room)?,
+            room,
+            calls: Numbered::new(fails),
+        })
+    }
+
+    /// What was taken.
+    pub fn bytes(&self) -> &[u8]
+        ensures { result.now ≡ self.now.taken.items }
+    {
+        self.taken.as_slice()
+    }
+}
+
+impl Sink for FixedSink {
+    ghost use Rattle.std.specs.Prelude.{Some};
+
+    ghost written = { λ s. Some s.taken.items };
+
+    ghost faults = { λ s. s.calls.faults };
+
+    fn write(&mut self, from: &[u8]) -> Wrote {
+        if self.calls.is_next_failing() {
+            self.calls.fail();
+            return Wrote::Failed;
+        }
+        let n = from.len().min(self.room - self.taken.len());
+        if n == 0 && !from.is_empty() {
+            self.calls.fail();
+            return Wrote::Failed;
+        }
+        match self.taken.extend_from_slice(&from[..n]) {
+            Ok(()) => Wrote::Taken(n),
+            Err(_) => unreachable!(),
+        }
+    }
+}

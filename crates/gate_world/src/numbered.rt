@@ -1,0 +1,41 @@
+//! Calls that are counted, so that some of them can be made to fail.
+ghost use Rattle.std.specs.Prelude.{◌≡◌, ◌≤◌};
+ghost use Rattle.gate_world.specs.Causes.{Rose};
+
+use schema::List;
+
+/// The calls so far, the numbers of those that fail, counted from 0, and how many failed.
+#[derive(Debug, Drop)]
+pub(crate) struct Numbered {
+    pub calls: u64,
+    pub fails: List<u64>,
+    pub faults: u64,
+}
+
+impl Numbered {
+    /// No call so far.
+    pub fn new(fails: List<u64>) -> Numbered {
+        Numbered {
+            calls: 0,
+            fails,
+            faults: 0,
+        }
+    }
+
+    /// Counts a call; true where its number is one of those that fail.
+    pub fn is_next_failing(&mut self) -> bool
+        ensures { self.new.faults ≡ self.old.faults }
+    {
+        let call = self.calls;
+        self.calls = call.saturating_add(1);
+        self.fails.as_slice().contains(&call)
+    }
+
+    /// Counts a fault.
+    pub fn fail(&mut self)
+        ensures later { self.old.faults ≤ self.new.faults }
+        ensures rose { Rose self.old.faults self.new.faults }
+    {
+        self.faults = self.faults.saturating_add(1);
+    }
+}

@@ -1,0 +1,3 @@
+pub mod LinkedSet
+pub mod LinkedApi
+pub mod BoundMessage

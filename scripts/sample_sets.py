@@ -1,0 +1,307 @@
+#!/usr/bin/env python3
+"""Makes the sample descriptor sets of the repository, byte for byte, from a readable form.
+
+usage: sample_sets.py [--check]
+
+It writes
+  crates/grpcjson/data/items.bin       the set of items.proto, without imports
+  crates/gateway_run/src/tests/sets.rt the sets of the first path: for each point of the form that is
+                                       read, one that breaks it alone and one at its edge
+With --check it writes nothing, and fails where a file differs from what it would write.
+"""
+import pathlib
+import sys
+
+ROOT = pathlib.Path(__file__).resolve().parent.parent
+
+
+def varint(n, size=0):
+    """The shortest varint of n, or one of `size` bytes."""
+    n &= (1 << 64) - 1
+    out = bytearray()
+    while n >= 128 or len(out) + 1 < size:
+        out.append(n % 128 + 128)
+        n //= 128
+    out.append(n)
+    return bytes(out)
+
+
+def tag(number, wire, size=0):
+    return varint(number * 8 + wire, size)
+
+
+def text(number, value):
+    """A LEN record: a string, or a message that is given as its bytes."""
+    if isinstance(value, str):
+        value = value.encode()
+    return tag(number, 2) + varint(len(value)) + value
+
+
+def num(number, n, size=0):
+    """A VARINT record."""
+    return tag(number, 0) + varint(n, size)
+
+
+def field(name="id", number=1, label=1, kind=9, json="id", more=b""):
+    """FieldDescriptorProto."""
+    out = text(1, name)
+    out += b"" if number is None else num(3, number)
+    out += b"" if label is None else num(4, label)
+    out += b"" if kind is None else num(5, kind)
+    out += more
+    out += b"" if json is None else text(10, json)
+    return out
+
+
+def message(name="M", fields=None, more=b""):
+    """DescriptorProto."""
+    out = text(1, name)
+    for one in [field()] if fields is None else fields:
+        out += text(2, one)
+    return out + more
+
+
+def rule(template="/v1/items/{id}", more=b""):
+    """google.api.HttpRule with a GET."""
+    return text(2, template) + more
+
+
+def options(http):
+    """MethodOptions with the extension google.api.http."""
+    return text(72295728, http)
+
+
+def method(name="Get", request=".p.M", response=".p.M", http=None, more=b""):
+    """MethodDescriptorProto."""
+    out = text(1, name) + text(2, request) + text(3, response)
+    out += text(4, options(rule() if http is None else http)) if http != b"" else b""
+    return out + more
+
+
+def service(name="S", methods=None):
+    """ServiceDescriptorProto."""
+    out = text(1, name)
+    for one in [method()] if methods is None else methods:
+        out += text(2, one)
+    return out
+
+
+def file(name="a.proto", package="p", messages=None, services=None, syntax="proto3", more=b""):
+    """FileDescriptorProto."""
+    out = text(1, name) + (b"" if package is None else text(2, package))
+    for one in [message()] if messages is None else messages:
+        out += text(4, one)
+    for one in [service()] if services is None else services:
+        out += text(6, one)
+    out += more
+    return out + (b"" if syntax is None else text(12, syntax))
+
+
+def fileset(*files):
+    """FileDescriptorSet."""
+    return b"".join(text(1, one) for one in files)
+
+
+def of_message(**given):
+    return fileset(file(messages=[message(**given)]))
+
+
+def of_field(**given):
+    return of_message(fields=[field(**given)])
+
+
+def of_method(**given):
+    return fileset(file(services=[service(methods=[method(**given)])]))
+
+
+def of_rule(template="/v1/items/{id}", more=b""):
+    return of_method(http=rule(template, more))
+
+
+ITEMS = fileset(file())
+ENUM = text(1, "E") + text(2, text(1, "ZERO") + num(2, 0))
+NAMES = [field(), field("b_c", 2, json="bC")]
+SHORT = "/v1/items/x"
+
+# label, set, target, whether the set is of the form that is read
+CASES = [
+    ("the sample set", ITEMS, SHORT, True),
+    ("without its last byte", ITEMS[:-1], SHORT, False),
+    ("empty", b"", SHORT, False),
+    ("two files", fileset(file(), file(name="b.proto")), SHORT, False),
+    # records
+    ("an unlisted LEN record", fileset(file(more=text(9, b"\xff"))), SHORT, True),
+    ("an unlisted VARINT record", fileset(file(more=num(100, 7))), SHORT, True),
+    ("an unlisted I64 record", fileset(file(more=tag(100, 1) + bytes(8))), SHORT, False),
+    ("an unlisted I32 record", fileset(file(more=tag(100, 5) + bytes(4))), SHORT, False),
+    ("an unlisted group", fileset(file(more=tag(100, 3) + tag(100, 4))), SHORT, False),
+    ("an unlisted wire type 6", fileset(file(more=tag(100, 6))), SHORT, False),
+    ("a record at the set's level", ITEMS + num(2, 1), SHORT, True),
+    ("an I32 record at the set's level", ITEMS + tag(2, 5) + bytes(4), SHORT, False),
+    ("a tag of two bytes", fileset(file(more=num(16, 1))), SHORT, True),
+    ("a tag of one byte more than it needs", fileset(file(more=tag(15, 0, 2) + b"\x01")), SHORT, False),
+    ("the tag number 0", fileset(file(more=num(0, 1))), SHORT, False),
+    ("the tag number 536,870,911", fileset(file(more=num(536870911, 1))), SHORT, True),
+    ("the tag number 536,870,912", fileset(file(more=num(536870912, 1))), SHORT, False),
+    ("a varint of 10 bytes", fileset(file(more=num(100, 1, 10))), SHORT, True),
+    ("a varint of 11 bytes", fileset(file(more=num(100, 1, 11))), SHORT, False),
+    ("a length of 10 bytes", fileset(file(more=tag(100, 2) + varint(1, 10) + b"a")), SHORT, True),
+    ("a length of 11 bytes", fileset(file(more=tag(100, 2) + varint(1, 11) + b"a")), SHORT, False),
+    ("a length past the end", fileset(file(more=tag(100, 2) + varint(2) + b"a")), SHORT, False),
+    ("a number of 10 bytes", of_field(number=None, more=num(3, 1, 10)), SHORT, True),
+    ("a number of 11 bytes", of_field(number=None, more=num(3, 1, 11)), SHORT, False),
+    ("a number cut to 32 bits", of_field(number=(1 << 32) + 1), SHORT, True),
+    ("a text that is not UTF-8", fileset(file(name=b"\xff.proto")), SHORT, False),
+    ("a text that is cut in a character", fileset(file(name=b"\xe2\x82")), SHORT, False),
+    ("a text of all lengths of characters", fileset(file(name="a\u00e9\u20ac\U0001f600")), SHORT, True),
+    ("a template that is not UTF-8", of_rule(b"/v1/\xff/{id}"), SHORT, False),
+    ("an unlisted text that is not UTF-8", of_field(more=text(7, b"\xff")), SHORT, True),
+    ("a listed text as VARINT", fileset(file(more=num(2, 1), package=None)), SHORT, False),
+    ("a listed number as LEN", of_field(label=None, more=text(4, "a")), SHORT, False),
+    ("a listed message as VARINT", fileset(file(more=num(5, 1))), SHORT, False),
+    ("a file's name twice", fileset(file(more=text(1, "a.proto"))), SHORT, False),
+    ("a field's number twice", of_field(more=num(3, 1)), SHORT, False),
+    ("a rule's body twice", of_rule(more=text(7, "") + text(7, "")), SHORT, False),
+    ("method options twice", of_method(more=text(4, b"")), SHORT, False),
+    ("an unlisted field twice", of_field(more=text(7, "a") + text(7, "b")), SHORT, True),
+    # the file
+    ("no syntax", fileset(file(syntax=None)), SHORT, False),
+    ("syntax proto2", fileset(file(syntax="proto2")), SHORT, False),
+    ("syntax editions", fileset(file(syntax="editions")), SHORT, False),
+    ("package google", fileset(file(package="google")), SHORT, False),
+    ("a package that begins with google", fileset(file(package="google.p")), SHORT, False),
+    ("package googl", fileset(file(package="googl", services=[service(methods=[method(request=".googl.M", response=".googl.M")])])), SHORT, True),
+    ("no package", fileset(file(package=None, services=[service(methods=[method(request=".M", response=".M")])])), SHORT, True),
+    ("an enum in the file", fileset(file(more=text(5, ENUM))), SHORT, False),
+    ("an extension in the file", fileset(file(more=text(7, field()))), SHORT, False),
+    # messages
+    ("a nested type", of_message(more=text(3, message("N"))), SHORT, False),
+    ("an enum in a message", of_message(more=text(4, ENUM)), SHORT, False),
+    ("an extension in a message", of_message(more=text(6, field())), SHORT, False),
+    ("message options", of_message(more=text(7, b"")), SHORT, False),
+    ("an oneof without members", of_message(more=text(8, text(1, "o"))), SHORT, True),
+    ("two messages of two names", fileset(file(messages=[message(), message("N")])), SHORT, True),
+    ("two messages of one name", fileset(file(messages=[message(), message("M", [])])), SHORT, False),
+    ("a message that no method names, with a number", fileset(file(messages=[message(), message("N", [field(kind=5)])])), SHORT, False),
+    # fields
+    ("type int32", of_field(kind=5), SHORT, False),
+    ("type bytes", of_field(kind=12), SHORT, False),
+    ("no type", of_field(kind=None), SHORT, False),
+    ("label required", of_field(label=2), SHORT, False),
+    ("label repeated", of_field(label=3), SHORT, False),
+    ("no label", of_field(label=None), SHORT, False),
+    ("an oneof index", of_message(fields=[field(more=num(9, 0))], more=text(8, text(1, "o"))), SHORT, False),
+    ("proto3 optional", of_field(more=num(17, 1)), SHORT, False),
+    ("proto3 optional said to be false", of_field(more=num(17, 0)), SHORT, True),
+    ("field number 0", of_field(number=0), SHORT, False),
+    ("field number -1", of_field(number=-1), SHORT, False),
+    ("field number 536,870,911", of_field(number=536870911), SHORT, True),
+    ("field number 536,870,912", of_field(number=536870912), SHORT, False),
+    ("two fields", of_message(fields=NAMES), SHORT, True),
+    ("two fields of one number", of_message(fields=[field(), field("b", 1, json="b")]), SHORT, False),
+    ("two fields of one name", of_message(fields=[field(), field("id", 2, json="b")]), SHORT, False),
+    ("two fields of one JSON name", of_message(fields=[field(), field("b", 2, json="id")]), SHORT, False),
+    ("a name that is another's JSON name", of_message(fields=[field(json="b"), field("b", 2, json="c")]), SHORT, False),
+    ("two names that give one JSON name", of_message(fields=[field(json=None), field("i_d", 2, json=None), field("iD", 3, json=None)]), SHORT, False),
+    ("an absent JSON name", of_field(json=None), SHORT, True),
+    ("a present, empty JSON name", of_field(json=""), SHORT, True),
+    # the service
+    ("no service", fileset(file(services=[])), SHORT, False),
+    ("two services", fileset(file(services=[service(), service("T", [])])), SHORT, False),
+    ("no method", fileset(file(services=[service(methods=[])])), SHORT, False),
+    ("two methods", fileset(file(services=[service(methods=[method(), method("Put", http=b"")])])), SHORT, False),
+    ("a client that streams", of_method(more=num(5, 1)), SHORT, False),
+    ("a server that streams", of_method(more=num(6, 1)), SHORT, False),
+    ("neither streams, said", of_method(more=num(5, 0) + num(6, 0)), SHORT, True),
+    ("a request of another name", of_method(request=".p.N"), SHORT, False),
+    ("a request without its leading dot", of_method(request="p.M"), SHORT, False),
+    ("a response of another name", of_method(response=".q.M"), SHORT, False),
+    ("a response that is another message", fileset(file(messages=[message(), message("N")], services=[service(methods=[method(response=".p.N")])])), SHORT, True),
+    # the rule
+    ("no rule", of_method(http=b""), SHORT, False),
+    ("an empty rule", of_method(http=b"", more=text(4, options(b""))), SHORT, False),
+    ("a POST", of_method(http=text(4, "/v1/items/{id}")), SHORT, False),
+    ("a GET behind a PUT", of_method(http=text(3, "/v1/{id}") + rule()), SHORT, True),
+    ("a PUT behind a GET", of_rule(more=text(3, "/v1/{id}")), SHORT, False),
+    ("a custom pattern", of_method(http=text(8, text(1, "GET") + text(2, "/v1/items/{id}"))), SHORT, False),
+    ("a body", of_rule(more=text(7, "*")), SHORT, False),
+    ("an empty body", of_rule(more=text(7, "")), SHORT, True),
+    ("a response body", of_rule(more=text(12, "id")), SHORT, False),
+    ("an additional binding", of_rule(more=text(11, rule("/v2/{id}"))), SHORT, False),
+    # the template
+    ("a variable alone", of_rule("/{id}"), "/x", True),
+    ("a literal behind the variable", of_rule("/{id}/b"), "/x/b", True),
+    ("each literal byte", of_rule("/azAZ09-._~!$&'()+,;=@/{id}"), "/azAZ09-._~!$&'()+,;=@/x", True),
+    ("64 segments", of_rule("/a" * 63 + "/{id}"), "/a" * 63 + "/x", True),
+    ("65 segments", of_rule("/a" * 64 + "/{id}"), "/a" * 64 + "/x", False),
+    ("no variable", of_rule("/v1/items"), SHORT, False),
+    ("two variables", fileset(file(messages=[message(fields=NAMES)], services=[service(methods=[method(http=rule("/v1/{id}/{b_c}"))])])), SHORT, False),
+    ("one variable twice", of_rule("/v1/{id}/{id}"), SHORT, False),
+    ("a variable of another name", of_rule("/v1/items/{name}"), SHORT, False),
+    ("a variable with its segments", of_rule("/v1/items/{id=*}"), SHORT, False),
+    ("a variable of no name", of_rule("/v1/items/{}"), SHORT, False),
+    ("an open brace", of_rule("/v1/items/{id"), SHORT, False),
+    ("a verb", of_rule("/v1/items/{id}:go"), SHORT, False),
+    ("a wildcard", of_rule("/v1/*/{id}"), SHORT, False),
+    ("a slash at the end", of_rule("/v1/items/{id}/"), SHORT, False),
+    ("no slash at the front", of_rule("v1/items/{id}"), SHORT, False),
+    ("two slashes", of_rule("/v1//{id}"), SHORT, False),
+    ("an escape", of_rule("/v%31/{id}"), SHORT, False),
+    ("a blank", of_rule("/v 1/{id}"), SHORT, False),
+    ("a letter that is not ASCII", of_rule("/v\u00e9/{id}"), SHORT, False),
+    ("an empty template", of_rule(""), SHORT, False),
+]
+
+
+def literal(data):
+    """A byte string of the language."""
+    out = []
+    for b in data:
+        c = chr(b)
+        if c in "\\\"'":
+            out.append("\\" + c)
+        elif 0x20 <= b <= 0x7E:
+            out.append(c)
+        else:
+            out.append(f"\\x{b:02x}")
+    return 'b"' + "".join(out) + '"'
+
+
+def table():
+    rows = "".join(
+        f'    ("{label}", {literal(data)}, "{target}", {"true" if built else "false"}),\n'
+        for label, data, target, built in CASES
+    )
+    return f"""//! Descriptor sets, as scripts/sample_sets.py makes them: a label, the set's bytes, a target that its
+//! template fits, and whether it is of the form that is read.
+
+/// The set of one service with one GET rule, `/v1/items/{{id}}`.
+#[rattlefmt::skip]
+pub(crate) const ITEMS: &[u8] = {literal(ITEMS)};
+
+#[rattlefmt::skip]
+pub(crate) const CASES: &[(&str, &[u8], &str, bool)] = &[
+{rows}];
+"""
+
+
+def main():
+    made = {
+        ROOT / "crates/grpcjson/data/items.bin": ITEMS,
+        ROOT / "crates/gateway_run/src/tests/sets.rt": table().encode(),
+    }
+    stale = []
+    for path, data in made.items():
+        if "--check" in sys.argv[1:]:
+            if not path.exists() or path.read_bytes() != data:
+                stale.append(path.relative_to(ROOT))
+        else:
+            path.parent.mkdir(parents=True, exist_ok=True)
+            path.write_bytes(data)
+    for path in stale:
+        print(f"{path} is not what scripts/sample_sets.py makes")
+    return 1 if stale else 0
+
+
+if __name__ == "__main__":
+    sys.exit(main())
