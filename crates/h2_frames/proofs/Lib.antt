@@ -1,0 +1,10 @@
+mod StandardFacts
+pub mod FrontLemmas
+pub mod SteadyLemmas
+pub mod GrowthLemmas
+pub mod CutLemmas
+pub mod DecidedLemmas
+pub mod FaultLemmas
+pub mod FedLemmas
+pub mod CallLemmas
+pub mod FreshLemmas
