@@ -1,11 +1,14 @@
 -- Ten bytes decide each rule.
-use Rattle.std.proofs.Common.{◌≡◌, ◌≢◌, ◌<◌, ◌≤◌, ◌+◌, ◌-◌, ◌%◌, ◌==◌, ◌&&◌, ◌||◌, ℕ, Bool, true, false, List, length, cond, nat_lt, nat_le, arith, refl, sym, ap, subst, Option, Some, None}
+use Rattle.std.proofs.Common.{◌≡◌, ◌≢◌, ◌∙◌, length-take, take, min, ◌<◌, ◌≤◌, ◌+◌, ◌-◌, ◌%◌, ◌==◌, ◌&&◌, ◌||◌, ℕ, Bool, true, false, List, length, cond, nat_lt, nat_le, arith, refl, sym, ap, subst, Option, Some, None}
 use Rattle.std.proofs.lemmas.Bool.{le-ltb}
 use Rattle.std.proofs.lemmas.Bool.Decides.{nat_tests}
 use Rattle.std.proofs.lemmas.Grind.{get_or_default_zero}
-use Rattle.h2_frames.specs.declared.codes.TheConstants.{DATA, HEADERS, PRIORITY, RST_STREAM, SETTINGS, PING, GOAWAY, WINDOW_UPDATE, CONTINUATION, PADDED, MAX_FRAME_SIZE}
-use Rattle.h2_frames.specs.FrameHead.{length_with, stream_with, kind_of, flags_of, has_flag}
-use Rattle.h2_frames.specs.FrameErrors.{Context, Verdict, Undecided, Keeps, Breaks, keeps_if, breaks_if, of_all, begins_with_settings, continues_block, is_of_stream, is_of_connection, is_on_its_stream, fields_size, fits_kind, pads_kind, Judgement, Open, Fine, Fault, first_broken, judge}
+use Rattle.h2_frames.specs.declared.codes.TheConstants.{DATA, HEADERS, PRIORITY, RST_STREAM, SETTINGS, PING, GOAWAY, WINDOW_UPDATE, CONTINUATION, PADDED, PRIORITY_FLAG, MAX_FRAME_SIZE, PROTOCOL_ERROR, FRAME_SIZE_ERROR}
+use Rattle.h2_frames.specs.FrameHead.{length_with, stream_with, kind_of, flags_of, has_flag, frame_size}
+use Rattle.h2_frames.specs.FrameErrors.{Context, Verdict, Undecided, Keeps, Breaks, keeps_if, breaks_if, of_all, with_kind, with_flags, fits_fields, pads_within, pads_fields, has_size_of_kind, has_padding_within, begins_with_settings, continues_block, is_of_stream, is_of_connection, is_on_its_stream, fields_size, fits_kind, pads_kind, Judgement, Open, Fine, Fault, first_broken, judge}
+use Rattle.h2_frames.specs.Http2Frame.{judged}
+use Rattle.h2_frames.proofs.FrontLemmas.{judged-many, size-take}
+use Rattle.h2_frames.proofs.GrowthLemmas.{either}
 
 abbrev IsDecided : Verdict → Type 0
 IsDecided Undecided = ⊥
@@ -100,5 +103,62 @@ decided at bs r =
     judge_step _ 1 _ (begins_decided at.first at.block bs p q) (judge_step _ 6 _ (all_or_none _ _ (small_or _ _ MAX_FRAME_SIZE (size_known bs t))) (judge_step _ 1 _ (follows_decided at.block bs p n) (judge_step _ 1 _ (stands_decided bs p n)
     (judge_step _ 1 _ (known 4 bs _ p (refusal_decided _)) (judge_step _ 6 _ (known 4 bs _ p (fits_decided (kind_of bs) (length_with 0 bs) bs q)) (judge_step _ 1 _ (known 4 bs _ p (pads_decided (kind_of bs) (length_with 0 bs) bs q r)) tt))))))
 
-pub judge-decides : (at : Context) (bs : List ℕ) → 10 ≤ length bs → judge at bs ≢ Open
-judge-decides at bs r e = subst IsNotOpen e (decided at bs r)
+-- a frame with no payload, whose padding no byte can decide
+
+no-room : (n size : ℕ) → 1 ≤ n → size ≡ 0 → nat_le n size ≡ false
+no-room n size h z = grind (arith, nat_tests)
+
+padded-size : (kind flags : ℕ) (b : Bool) → has_flag PADDED flags ≡ b → b ≡ true → 1 ≤ fields_size kind flags
+padded-size kind flags b e h =
+    let more : ℕ = cond (kind == HEADERS && has_flag PRIORITY_FLAG flags) 5 0 in
+    let one : fields_size kind flags ≡ 1 + cond (kind == HEADERS && has_flag PRIORITY_FLAG flags) 5 0 = ap (λ (x : Bool). cond x 1 0 + cond (kind == HEADERS && has_flag PRIORITY_FLAG flags) 5 0) (e ∙ h) in
+    omega arith
+
+-- where the fields fit into nothing, there is no padding
+unpadded : (kind size : ℕ) (bs : List ℕ) (b : Bool) → 5 ≤ length bs → size ≡ 0 → fits_fields kind size bs ≡ Keeps → has_flag PADDED (flags_of bs) ≡ b → IsDecided (cond b (pads_within (size - fields_size kind (flags_of bs)) bs) Keeps)
+unpadded kind size bs false q z e h = tt
+unpadded kind size bs true q z e h =
+    let a : nat_le (fields_size kind 255) size ≡ false = no-room (fields_size kind 255) size (padded-size kind 255 true refl refl) z in
+    let c : nat_le (fields_size kind (flags_of bs)) size ≡ false = no-room (fields_size kind (flags_of bs)) size (padded-size kind (flags_of bs) true h refl) z in
+    let inner : Verdict = with_flags bs (keeps_if (nat_le (fields_size kind (flags_of bs)) size)) in
+    let broken : fits_fields kind size bs ≡ Breaks = ap (λ (x : Bool). cond x Keeps (with_flags bs (keeps_if (nat_le (fields_size kind (flags_of bs)) size)))) a ∙ ap (λ (x : Bool). cond x Undecided (keeps_if (nat_le (fields_size kind (flags_of bs)) size))) (le-ltb (length bs) 5 q) ∙ ap keeps_if c in
+    absurd (cc)
+
+short-fields : (kind size : ℕ) (bs : List ℕ) (b : Bool) (other : Verdict) → 5 ≤ length bs → size ≡ 0 → cond b (fits_fields kind size bs) other ≡ Keeps → IsDecided (cond b (pads_fields kind size bs) Keeps)
+short-fields kind size bs true other q z e = either_way (nat_le (fields_size kind 255 + 255) size) _ _ tt (known 5 bs _ q (unpadded kind size bs (has_flag PADDED (flags_of bs)) q z e refl))
+short-fields kind size bs false other q z e = tt
+
+tail_by : (first second : Verdict) (c d : ℕ) → IsDecided first → (first ≡ Keeps → IsDecided second) → IsNotOpen (first_broken first c (first_broken second d Fine))
+tail_by Undecided second c d p k = p
+tail_by Breaks second c d p k = tt
+tail_by Keeps second c d p k = judge_step second d Fine (k refl) tt
+
+kept-kind : (bs : List ℕ) (v : Verdict) → 4 ≤ length bs → with_kind bs v ≡ v
+kept-kind bs v p = ap (λ (x : Bool). cond x Undecided v) (le-ltb (length bs) 4 p)
+
+decided-short : (at : Context) (bs : List ℕ) → 9 ≤ length bs → length_with 0 bs ≡ 0 → IsNotOpen (judge at bs)
+decided-short at bs n z =
+    let p : 4 ≤ length bs = omega arith in
+    let q : 5 ≤ length bs = omega arith in
+    let t : 3 ≤ length bs = omega arith in
+    judge_step _ PROTOCOL_ERROR _ (begins_decided at.first at.block bs p q) (judge_step _ FRAME_SIZE_ERROR _ (all_or_none _ _ (small_or _ _ MAX_FRAME_SIZE (size_known bs t))) (judge_step _ PROTOCOL_ERROR _ (follows_decided at.block bs p n) (judge_step _ PROTOCOL_ERROR _ (stands_decided bs p n)
+    (judge_step _ PROTOCOL_ERROR _ (known 4 bs _ p (refusal_decided _)) (tail_by (has_size_of_kind bs) (has_padding_within bs) FRAME_SIZE_ERROR PROTOCOL_ERROR (known 4 bs _ p (fits_decided (kind_of bs) (length_with 0 bs) bs q))
+    (λ e. known 4 bs _ p (short-fields (kind_of bs) (length_with 0 bs) bs (kind_of bs == DATA || kind_of bs == HEADERS) _ q z (sym (kept-kind bs (fits_kind (kind_of bs) (length_with 0 bs) bs) p) ∙ e))))))))
+
+-- a whole frame leaves no rule undecided
+decided-whole : (at : Context) (bs : List ℕ) → 9 ≤ length bs → frame_size bs ≤ length bs → IsNotOpen (judge at (judged bs))
+decided-whole at bs n w =
+    let cut : judged bs ≡ take (min 10 (frame_size bs)) bs = judged-many bs n in
+    subst (λ (xs : List ℕ). IsNotOpen (judge at xs)) (sym cut)
+    (either (frame_size bs) 10
+        (λ small.
+            let m : min 10 (frame_size bs) ≡ 9 = omega arith in
+            let nine : 9 ≤ length (take (min 10 (frame_size bs)) bs) = omega (arith, length-take (min 10 (frame_size bs)) bs) in
+            let three : 3 ≤ min 10 (frame_size bs) = omega arith in
+            decided-short at (take (min 10 (frame_size bs)) bs) nine (omega (arith, size-take 0 (min 10 (frame_size bs)) bs three)))
+        (λ large.
+            let ten : 10 ≤ length (take (min 10 (frame_size bs)) bs) = omega (arith, length-take (min 10 (frame_size bs)) bs) in
+            decided at (take (min 10 (frame_size bs)) bs) ten))
+
+pub judge-decides : (at : Context) (bs : List ℕ) → 9 ≤ length bs → frame_size bs ≤ length bs → judge at (judged bs) ≢ Open
+judge-decides at bs n w e = subst IsNotOpen e (decided-whole at bs n w)

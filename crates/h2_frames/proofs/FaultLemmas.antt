@@ -4,10 +4,10 @@ use Rattle.std.proofs.lemmas.List.{take_all, map-append, drop-drop}
 use Rattle.std.proofs.Math.ListN.{drop_of_length-le}
 use Rattle.h2_frames.specs.declared.fault.H2Fault.{H2Fault}
 use Rattle.h2_frames.specs.FrameHead.{frame_size, Frame, frame_of}
-use Rattle.h2_frames.specs.FrameErrors.{Context, judge, Fault}
+use Rattle.h2_frames.specs.FrameErrors.{Context, judge, Judgement, Open, Fine, Fault}
 use Rattle.h2_frames.specs.Http2Frame.{AreBytes, Front, Short, Broken, Whole, whole_of, front, judged, after, start, Cut, behind, goes_on, cut, cut_at, frames_of, place_of, fault_at, first_fault, AreFrames}
 use Rattle.h2_frames.specs.FrameReader.{IsNoFault, StandsBroken}
-use Rattle.h2_frames.proofs.FrontLemmas.{fine-front, front-whole, short-few, short-cut, whole-front, whole-less}
+use Rattle.h2_frames.proofs.FrontLemmas.{fine-front, front-whole, short-few, short-cut, whole-front, whole-less, broken-front}
 use Rattle.h2_frames.proofs.CutLemmas.{cut-by, cut-append, cut-nothing}
 use Rattle.h2_frames.proofs.GrowthLemmas.{either, bytes-append, bytes-drop, broken-grows}
 
@@ -138,3 +138,18 @@ frames_of-whole before seen b h = ap (λ c. map frame_of c.frames) (cut-whole be
 
 pub frames-whole : (before seen : List ℕ) → AreFrames before → front (cut before).context seen ≡ Whole seen [] → AreFrames (before ++ seen)
 frames-whole before seen b h = let e = cut-whole before seen b h in record { rest = ap (λ c. c.rest) e; fault = ap (λ c. c.fault) e }
+
+no-fault-by : (before seen : List ℕ) (j : Judgement) → AreFrames before → first_fault (before ++ seen) ≡ None → judge (cut before).context (judged seen) ≡ j → IsNoFault j
+no-fault-by before seen Open b none h = tt
+no-fault-by before seen Fine b none h = tt
+no-fault-by before seen (Fault code) b none h =
+    let e = fault-of-cut (before ++ seen) _ (cut-next before seen (Broken code) b (broken-front (cut before).context seen code h)) in
+    absurd (cc)
+
+-- where no rule is broken, the frame behind whole frames breaks none
+pub fine-judged : (before seen : List ℕ) → AreFrames before → first_fault (before ++ seen) ≡ None → IsNoFault (judge (cut before).context (judged seen))
+fine-judged before seen b none = no-fault-by before seen (judge (cut before).context (judged seen)) b none refl
+
+-- less than a frame behind whole frames is what is left
+pub cut-part : (before seen : List ℕ) → AreFrames before → IsNoFault (judge (cut before).context (judged seen)) → (9 ≤ length seen → length seen < frame_size seen) → cut (before ++ seen) ≡ behind (cut before).frames (record { frames = []; rest = seen; context = (cut before).context; fault = None })
+cut-part before seen b fine part = cut-next before seen Short b (fine-front (cut before).context seen fine ∙ either (length seen) 9 (short-few seen) (λ nine. short-cut seen nine (part nine)))

@@ -8,3 +8,5 @@ pub mod FaultLemmas
 pub mod FedLemmas
 pub mod CallLemmas
 pub mod FreshLemmas
+pub mod ReadsBack
+pub mod RunLemmas

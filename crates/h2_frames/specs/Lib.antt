@@ -5,3 +5,4 @@ pub mod Http2Frame
 pub mod FrameWords
 pub mod FrameReader
 pub mod FrameSteps
+pub mod FrameRuns

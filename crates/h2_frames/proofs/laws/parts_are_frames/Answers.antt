@@ -1,0 +1,8 @@
+use Rattle.h2_frames.proofs.RunLemmas.{run-tells, run-refused}
+use Rattle.h2_frames.proofs.laws.parts_are_frames.Goals as goal
+
+pub returns-clause-parts : goal.returns-clause-parts
+returns-clause-parts c = run-tells
+
+pub returns-clause-refused : goal.returns-clause-refused
+returns-clause-refused c = run-refused
