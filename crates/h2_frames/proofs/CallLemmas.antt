@@ -9,8 +9,8 @@ use Rattle.h2_frames.specs.declared.parts.Part.{Part}
 use Rattle.h2_frames.specs.declared.parts.Part.TheVariants.{Begin, Piece, Done}
 use Rattle.h2_frames.specs.FrameHead.{length_with, stream_with, kind_of, flags_of, frame_size, frame_of}
 use Rattle.h2_frames.specs.FrameErrors.{Context, judge, Fault}
-use Rattle.h2_frames.specs.Http2Frame.{AreBytes, AreFrames, cut, front, judged, after, Broken, Whole, place_of, first_fault, frames_of, start}
-use Rattle.h2_frames.specs.FrameReader.{Position, no_bytes, taken_of, part_of, begin_of, bytes_after, answer_of, position_by, position_after, Kept, IsNoFault, StandsAt, StandsBroken, StandsBy, Stands}
+use Rattle.h2_frames.specs.Http2Frame.{AreBytes, cut, front, judged, after, Broken, Whole, place_of, first_fault, frames_of}
+use Rattle.h2_frames.specs.FrameReader.{Position, taken_of, part_of, begin_of, bytes_after, answer_of, position_by, position_after, Kept, IsNoFault, StandsAt, StandsBroken, StandsBy, Stands}
 use Rattle.h2_frames.specs.FrameSteps.{head_with, pad_with, IsHeadPart, IsHeadStep, IsPayloadStep, IsLastStep}
 use Rattle.h2_frames.proofs.FrontLemmas.{judged-few, judged-many, frame_size-append, size-take, broken-front, nothing_fine}
 use Rattle.h2_frames.proofs.GrowthLemmas.{either, take_append, take_both, bytes-append, bytes-take, bytes-drop, judged-nine, broken-grows}

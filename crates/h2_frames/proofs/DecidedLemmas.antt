@@ -151,14 +151,14 @@ decided-whole at bs n w =
     let cut : judged bs ≡ take (min 10 (frame_size bs)) bs = judged-many bs n in
     subst (λ (xs : List ℕ). IsNotOpen (judge at xs)) (sym cut)
     (either (frame_size bs) 10
-        (λ small.
-            let m : min 10 (frame_size bs) ≡ 9 = omega arith in
-            let nine : 9 ≤ length (take (min 10 (frame_size bs)) bs) = omega (arith, length-take (min 10 (frame_size bs)) bs) in
-            let three : 3 ≤ min 10 (frame_size bs) = omega arith in
-            decided-short at (take (min 10 (frame_size bs)) bs) nine (omega (arith, size-take 0 (min 10 (frame_size bs)) bs three)))
-        (λ large.
-            let ten : 10 ≤ length (take (min 10 (frame_size bs)) bs) = omega (arith, length-take (min 10 (frame_size bs)) bs) in
-            decided at (take (min 10 (frame_size bs)) bs) ten))
+    (λ small.
+    let m : min 10 (frame_size bs) ≡ 9 = omega arith in
+    let nine : 9 ≤ length (take (min 10 (frame_size bs)) bs) = omega (arith, length-take (min 10 (frame_size bs)) bs) in
+    let three : 3 ≤ min 10 (frame_size bs) = omega arith in
+    decided-short at (take (min 10 (frame_size bs)) bs) nine (omega (arith, size-take 0 (min 10 (frame_size bs)) bs three)))
+    (λ large.
+    let ten : 10 ≤ length (take (min 10 (frame_size bs)) bs) = omega (arith, length-take (min 10 (frame_size bs)) bs) in
+    decided at (take (min 10 (frame_size bs)) bs) ten))
 
 pub judge-decides : (at : Context) (bs : List ℕ) → 9 ≤ length bs → frame_size bs ≤ length bs → judge at (judged bs) ≢ Open
 judge-decides at bs n w e = subst IsNotOpen e (decided-whole at bs n w)

@@ -1,11 +1,11 @@
 -- The first fault of a list of bytes, and of a longer one.
-use Rattle.std.proofs.Common.{◌≡◌, ◌<◌, ◌≤◌, ◌+◌, ◌-◌, ◌++◌, ℕ, zero, suc, List, [], ◌∷◌, length, take, drop, min, arith, refl, sym, ap, ap₂, subst, ◌∙◌, length-append, length-drop, append-nil, append_assoc, Option, Some, None, get_or, map}
+use Rattle.std.proofs.Common.{◌≡◌, ◌<◌, ◌≤◌, ◌+◌, ◌-◌, ◌++◌, ℕ, zero, suc, List, [], ◌∷◌, length, drop, arith, refl, sym, ap, ap₂, subst, ◌∙◌, length-append, length-drop, Option, Some, None, map}
 use Rattle.std.proofs.lemmas.List.{take_all, map-append, drop-drop}
 use Rattle.std.proofs.Math.ListN.{drop_of_length-le}
 use Rattle.h2_frames.specs.declared.fault.H2Fault.{H2Fault}
 use Rattle.h2_frames.specs.FrameHead.{frame_size, Frame, frame_of}
 use Rattle.h2_frames.specs.FrameErrors.{Context, judge, Judgement, Open, Fine, Fault}
-use Rattle.h2_frames.specs.Http2Frame.{AreBytes, Front, Short, Broken, Whole, whole_of, front, judged, after, start, Cut, behind, goes_on, cut, cut_at, frames_of, place_of, fault_at, first_fault, AreFrames}
+use Rattle.h2_frames.specs.Http2Frame.{AreBytes, Front, Short, Broken, Whole, front, judged, after, start, Cut, behind, goes_on, cut, cut_at, frames_of, place_of, fault_at, first_fault, AreFrames}
 use Rattle.h2_frames.specs.FrameReader.{IsNoFault, StandsBroken}
 use Rattle.h2_frames.proofs.FrontLemmas.{fine-front, front-whole, short-few, short-cut, whole-front, whole-less, broken-front}
 use Rattle.h2_frames.proofs.CutLemmas.{cut-by, cut-append, cut-nothing}

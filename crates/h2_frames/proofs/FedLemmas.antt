@@ -1,11 +1,11 @@
 -- What a call takes and tells, by cases.
-use Rattle.std.proofs.Common.{◌≡◌, ◌<◌, ◌≤◌, ◌+◌, ◌-◌, ◌++◌, ◌==◌, ℕ, Bool, true, false, List, [], length, take, drop, min, cond, nat_lt, nat_le, arith, refl, sym, ap, ap₂, ◌∙◌, Option, Some, None, Result, Ok, Err}
+use Rattle.std.proofs.Common.{◌≡◌, ◌<◌, ◌≤◌, ◌+◌, ◌-◌, ◌++◌, ◌==◌, ℕ, Bool, true, false, List, length, take, min, cond, nat_lt, nat_le, arith, sym, ap, ap₂, ◌∙◌, Option, Some, None, Result, Ok, Err}
 use Rattle.std.proofs.lemmas.Bool.{le-ltb, lt-ltb}
 use Rattle.std.proofs.lemmas.Bool.Decides.{nat_tests}
 use Rattle.h2_frames.specs.declared.fault.H2Fault.{H2Fault}
 use Rattle.h2_frames.specs.declared.parts.FrameFed.{FrameFed}
 use Rattle.h2_frames.specs.declared.parts.Part.{Part}
-use Rattle.h2_frames.specs.declared.parts.Part.TheVariants.{Begin, Piece, Done}
+use Rattle.h2_frames.specs.declared.parts.Part.TheVariants.{Piece, Done}
 use Rattle.h2_frames.specs.FrameHead.{frame_size}
 use Rattle.h2_frames.specs.Http2Frame.{first_fault}
 use Rattle.h2_frames.specs.FrameReader.{Position, taken_of, part_of, begin_of, fed_of, bytes_after, answer_by, answer_of}

@@ -1,7 +1,7 @@
 -- Calls of a reader one after another.
-use Rattle.std.proofs.Common.{◌≡◌, ◌≢◌, ◌<◌, ◌≤◌, ◌+◌, ◌-◌, ◌++◌, ◌==◌, ℕ, Bool, true, false, List, [], ◌∷◌, length, take, drop, min, cond, nat_lt, nat_le, arith, refl, sym, ap, ap₂, subst, ◌∙◌, length-append, length-take, append-nil, append_assoc, Option, Some, None, Result, Ok, Err, map}
+use Rattle.std.proofs.Common.{◌≡◌, ◌≢◌, ◌<◌, ◌≤◌, ◌+◌, ◌-◌, ◌++◌, ℕ, List, [], ◌∷◌, length, take, drop, min, cond, arith, refl, sym, ap, ap₂, subst, ◌∙◌, length-append, length-take, append-nil, append_assoc, Option, Some, None, Ok, Err, map}
 use Rattle.std.proofs.lemmas.Bool.{le-ltb, lt-ltb}
-use Rattle.std.proofs.lemmas.List.{take_all, drop-append-le, get_or_append_left, take-append-drop}
+use Rattle.std.proofs.lemmas.List.{drop-append-le, get_or_append_left, take-append-drop}
 use Rattle.std.proofs.Math.ListN.{drop_of_length-le}
 use Rattle.std.specs.Option.{option_to_list}
 use Rattle.h2_frames.specs.declared.fault.H2Fault.{H2Fault}
@@ -14,7 +14,7 @@ use Rattle.h2_frames.specs.FrameReader.{Position, no_bytes, bytes_read, taken_of
 use Rattle.h2_frames.specs.FrameRuns.{FeedCall, taken_in, taken_in_all, position_after_all, IsRun, Told, nothing_told, told_by, told_by_all, current_of, TellsFrames}
 use Rattle.h2_frames.proofs.FrontLemmas.{size-append, frame_size-append}
 use Rattle.h2_frames.proofs.GrowthLemmas.{either, bytes-append, bytes-take, bytes-drop}
-use Rattle.h2_frames.proofs.FaultLemmas.{fine-judged, fine-fault, whole-frame, frames_of-whole, frames-whole, cut-part, first_fault-append}
+use Rattle.h2_frames.proofs.FaultLemmas.{fine-judged, whole-frame, frames_of-whole, frames-whole, cut-part, first_fault-append}
 use Rattle.h2_frames.proofs.FedLemmas.{taken-few, taken-many, part-none, part-begin, part-done, part-idle, part-piece}
 use Rattle.h2_frames.proofs.FreshLemmas.{no-frames, no-frames-told, nothing-fine}
 
@@ -133,8 +133,8 @@ next p bytes fed told a e =
     either (length p.seen) 9
     (λ few. either (length p.seen + length bytes) 9 (next-none p bytes fed told a k few) (next-begin p bytes fed told a k few))
     (λ nine. either (length p.seen) (frame_size p.seen)
-        (λ part. either 0 (length bytes) (next-piece p bytes fed told a k nine part) (λ z. next-idle p bytes fed told a k nine part (omega arith)))
-        (next-done p bytes fed told a k nine))
+    (λ part. either 0 (length bytes) (next-piece p bytes fed told a k nine part) (λ z. next-idle p bytes fed told a k nine part (omega arith)))
+    (next-done p bytes fed told a k nine))
 
 -- and all of them
 agrees-all : (p : Position) (told : Told) (calls : List FeedCall) → Agrees p told → IsRun p calls → Agrees (position_after_all p calls) (told_by_all told calls)
@@ -154,13 +154,13 @@ adds-by (Some Done) p bytes h = record { is = ap (λ xs. (p.before ++ p.seen) ++
 done-by : (seen bytes : List ℕ) → part_of seen bytes ≡ Some Done → (9 ≤ length seen → length seen ≤ frame_size seen) → taken_of seen bytes ≡ 0
 done-by seen bytes h most = either (length seen) 9
     (λ few. either (length seen + length bytes) 9
-        (λ sum. let e = part-none seen bytes few sum in absurd (cc))
-        (λ sum. let e = part-begin seen bytes few sum in absurd (cc)))
+    (λ sum. let e = part-none seen bytes few sum in absurd (cc))
+    (λ sum. let e = part-begin seen bytes few sum in absurd (cc)))
     (λ nine. either (length seen) (frame_size seen)
-        (λ part. either 0 (length bytes)
-            (λ some. let e = part-piece seen bytes nine part some in absurd (cc))
-            (λ z. omega (arith, taken-many seen bytes nine)))
-        (λ all. omega (arith, taken-many seen bytes nine)))
+    (λ part. either 0 (length bytes)
+    (λ some. let e = part-piece seen bytes nine part some in absurd (cc))
+    (λ z. omega (arith, taken-many seen bytes nine)))
+    (λ all. omega (arith, taken-many seen bytes nine)))
 
 adds : (p : Position) (bytes : List ℕ) (fed : FrameFed) (told : Told) → Agrees p told → answer_of p bytes ≡ Ok fed → AddsBytes p (position_by fed.part p (take fed.taken bytes)) (take fed.taken bytes)
 adds p bytes fed told a e =
@@ -192,12 +192,12 @@ run-tells calls r =
     let read : bytes_read (position_after_all no_bytes calls) ≡ taken_in_all calls = adds-all no_bytes nothing_told calls nothing-agrees r in
     let rest = λ (h : part_of (position_after_all no_bytes calls).seen [] ≢ Some Done). cut-part (position_after_all no_bytes calls).before (position_after_all no_bytes calls).seen a.whole (fine-judged (position_after_all no_bytes calls).before (position_after_all no_bytes calls).seen a.whole a.fine) (not-due (position_after_all no_bytes calls).seen h) in
     record {
-        read = read;
-        fine = ap first_fault (sym read) ∙ a.fine;
-        frames = a.frames;
-        current = a.current;
-        all_frames = λ h. a.frames ∙ part-frames (position_after_all no_bytes calls).before (position_after_all no_bytes calls).seen (rest h) ∙ ap frames_of read;
-        all_current = λ h. a.current ∙ ap current_of (sym (ap (λ c. c.rest) (rest h))) ∙ ap (λ xs. current_of (rest_of xs)) read;
+      read = read;
+      fine = ap first_fault (sym read) ∙ a.fine;
+      frames = a.frames;
+      current = a.current;
+      all_frames = λ h. a.frames ∙ part-frames (position_after_all no_bytes calls).before (position_after_all no_bytes calls).seen (rest h) ∙ ap frames_of read;
+      all_current = λ h. a.current ∙ ap current_of (sym (ap (λ c. c.rest) (rest h))) ∙ ap (λ xs. current_of (rest_of xs)) read;
     }
 
 refused-at : (p : Position) (taken bytes more : List ℕ) (f : H2Fault) (n : ℕ) → bytes_read p ≡ taken → first_fault (p.before ++ (p.seen ++ take n bytes)) ≡ Some f → AreBytes taken → AreBytes bytes → AreBytes more → first_fault (taken ++ (bytes ++ more)) ≡ Some f

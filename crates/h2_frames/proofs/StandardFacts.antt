@@ -1,8 +1,8 @@
 -- Byte lists with their frames and first faults, computed by the definitions.
-use Rattle.std.proofs.Common.{◌≡◌, ◌++◌, ℕ, List, [], ◌∷◌, Some, None, refl, replicate}
+use Rattle.std.proofs.Common.{◌≡◌, ◌++◌, ℕ, List, [], ◌∷◌, Some, None, refl}
 use Rattle.std.specs.Prelude.{Option}
 use Rattle.h2_frames.specs.declared.fault.H2Fault.{H2Fault}
-use Rattle.h2_frames.specs.FrameHead.{Frame, frame_bytes}
+use Rattle.h2_frames.specs.FrameHead.{frame_bytes}
 use Rattle.h2_frames.specs.Http2Frame.{first_fault, frames_of, cut, cut_at, cut_within}
 
 -- an empty SETTINGS

@@ -7,7 +7,7 @@ use Rattle.std.proofs.Math.ListN.{get_or-eq_default}
 use Rattle.std.proofs.lemmas.Grind.{get_or_default_zero}
 use Rattle.h2_frames.specs.declared.codes.TheConstants.{DATA, HEADERS, PRIORITY, RST_STREAM, SETTINGS, PUSH_PROMISE, PING, GOAWAY, WINDOW_UPDATE, CONTINUATION, ACK, PADDED}
 use Rattle.h2_frames.specs.FrameHead.{length_with, stream_with, kind_of, flags_of, has_flag}
-use Rattle.h2_frames.specs.FrameErrors.{Context, Verdict, Undecided, Keeps, Breaks, keeps_if, breaks_if, with_kind, with_flags, of_all, begins_with_settings, is_within_limit, continues_block, is_of_stream, is_of_connection, is_on_its_stream, is_no_push, fields_size, fits_settings, fits_fields, fits_kind, pads_within, pads_kind, Judgement, Fine, Fault, first_broken, judge}
+use Rattle.h2_frames.specs.FrameErrors.{Context, Verdict, Undecided, Keeps, Breaks, keeps_if, breaks_if, with_kind, with_flags, of_all, begins_with_settings, is_within_limit, continues_block, is_of_stream, is_of_connection, is_on_its_stream, is_no_push, fields_size, fits_kind, pads_within, pads_kind, Judgement, Fine, Fault, first_broken, judge}
 use Rattle.h2_frames.specs.Http2Frame.{AreBytes}
 use Rattle.h2_frames.proofs.FrontLemmas.{size-append}
 

@@ -1,5 +1,5 @@
 -- Calls of a reader one after another, none of them refused: whoever feeds it, in whatever pieces.
-use Rattle.std.specs.Prelude.{◌≡◌, ◌≢◌, ◌+◌, ◌-◌, ◌++◌, ℕ, List, [], ◌∷◌, length, take, drop, if◌then◌else◌, nat_lt, Option, Some, None, option_map, Result, Ok, Err}
+use Rattle.std.specs.Prelude.{◌≡◌, ◌≢◌, ◌-◌, ◌++◌, ℕ, List, [], ◌∷◌, length, take, drop, if◌then◌else◌, nat_lt, Option, Some, None, option_map, Ok}
 use Rattle.std.specs.Option.{option_to_list}
 use Rattle.h2_frames.specs.declared.parts.FrameFed.{FrameFed}
 use Rattle.h2_frames.specs.declared.parts.Part.{Part}

@@ -1,6 +1,6 @@
 -- A list of bytes cut into frames, up to the first that breaks a rule (RFC 9113, sections 4.1
 -- and 5.4.1). Nothing here speaks of a reader or of pieces.
-use Rattle.std.specs.Prelude.{◌≡◌, ◌<◌, ◌==◌, ◌+◌, ◌-◌, ◌^◌, ◌||◌, ◌++◌, ℕ, suc, zero, true, false, List, [], ◌∷◌, length, take, drop, map, if◌then◌else◌, nat_lt, Option, Some, None, option_map, min, slice_index_or}
+use Rattle.std.specs.Prelude.{◌≡◌, ◌<◌, ◌==◌, ◌-◌, ◌^◌, ◌||◌, ◌++◌, ℕ, suc, zero, true, false, List, [], ◌∷◌, length, take, drop, map, if◌then◌else◌, nat_lt, Option, Some, None, min, slice_index_or}
 use Rattle.h2_frames.specs.declared.codes.TheConstants.{HEADERS, CONTINUATION, END_HEADERS}
 use Rattle.h2_frames.specs.declared.fault.H2Fault.{H2Fault}
 use Rattle.h2_frames.specs.FrameHead.{stream_with, kind_of, flags_of, has_flag, frame_size, Frame, frame_of}

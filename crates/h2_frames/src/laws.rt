@@ -12,8 +12,7 @@ ghost use Rattle.h2_frames.specs.FrameRuns.{FeedCall, IsRun, TellsFrames, taken_
 pub fn rules_are_decided()
     ensures { (at : Context) (bytes : List ℕ)
         → 9 ≤ length bytes → frame_size bytes ≤ length bytes → judge at (judged bytes) ≢ Open }
-{
-}
+{}
 
 /// Whatever bytes come, the first fault and the frames before it stay.
 pub fn faults_and_frames_stay()
@@ -21,8 +20,7 @@ pub fn faults_and_frames_stay()
         → first_fault bytes ≡ Some f → first_fault (bytes ++ more) ≡ Some f }
     ensures frames { (bytes more : List ℕ)
         → (others : List Frame) × (frames_of (bytes ++ more) ≡ frames_of bytes ++ others) }
-{
-}
+{}
 
 /// A frame that `put_frame` writes behind whole frames is read back as it is, wherever it breaks
 /// no rule there.
@@ -31,13 +29,12 @@ pub fn frames_are_read_back()
         → AreFrames before → stream < 2 ^ 31 → length payload < 2 ^ 24
         → first_fault (before ++ frame_bytes kind flags stream payload) ≡ None
         → frames_of (before ++ frame_bytes kind flags stream payload) ≡ frames_of before
-            ++ record { size = length payload; kind = kind; flags = flags; stream = stream; payload = payload } ∷ [] }
+        ++ record { size = length payload; kind = kind; flags = flags; stream = stream; payload = payload } ∷ [] }
     ensures whole { (before : List ℕ) (kind flags stream : ℕ) (payload : List ℕ)
         → AreFrames before → stream < 2 ^ 31 → length payload < 2 ^ 24
         → first_fault (before ++ frame_bytes kind flags stream payload) ≡ None
         → AreFrames (before ++ frame_bytes kind flags stream payload) }
-{
-}
+{}
 
 /// However a list of bytes is given to a reader, the parts of its answers are the frames of the
 /// whole list, up to the first fault of that list.
@@ -47,5 +44,4 @@ pub fn parts_are_frames()
         → IsRun no_bytes calls → answer_of (position_after_all no_bytes calls) bytes ≡ Err f
         → AreBytes (taken_in_all calls) → AreBytes bytes → AreBytes more
         → first_fault (taken_in_all calls ++ (bytes ++ more)) ≡ Some f }
-{
-}
+{}

@@ -101,6 +101,20 @@ impl FrameReader {
         })
     }
 
+    /// Keeps a fault of the frame that is read.
+    fn refuse(&mut self, code: u32) -> H2Fault
+        ensures place { result.place ≡ self.old.place }
+        ensures code { result.code ≡ code }
+        ensures fault { self.new ≡ record self.old { fault = Some result } }
+    {
+        let fault = H2Fault {
+            place: self.place,
+            code,
+        };
+        self.fault = Some(fault);
+        fault
+    }
+
     /// Takes bytes of a head, which has less than nine.
     fn take_head(&mut self, bytes: &[u8]) -> Result<FrameFed, H2Fault>
         requires fault { self.old.fault ≡ None }
@@ -109,14 +123,7 @@ impl FrameReader {
     {
         let most = 9 - self.head.len();
         match take_in(self.context, &mut self.head, most, bytes) {
-            Err(code) => {
-                let fault = H2Fault {
-                    place: self.place,
-                    code,
-                };
-                self.fault = Some(fault);
-                Err(fault)
-            }
+            Err(code) => Err(self.refuse(code)),
             Ok(taken) => {
                 if self.head.len() < 9 {
                     return Ok(FrameFed { taken, part: None });
@@ -140,14 +147,7 @@ impl FrameReader {
     {
         let most = self.left.min(10 - self.head.len());
         match take_in(self.context, &mut self.head, most, bytes) {
-            Err(code) => {
-                let fault = H2Fault {
-                    place: self.place,
-                    code,
-                };
-                self.fault = Some(fault);
-                Err(fault)
-            }
+            Err(code) => Err(self.refuse(code)),
             Ok(_) => {
                 let taken = self.left.min(bytes.len());
                 self.left -= taken;

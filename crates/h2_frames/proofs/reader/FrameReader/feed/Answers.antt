@@ -1,7 +1,5 @@
 -- Each call gives what the definitions say of all the bytes.
-use Rattle.std.proofs.Common.{◌≡◌, ◌<◌, ◌≤◌, length, sym, ap, subst, ◌∙◌, rules, Result, Ok, Err, arith}
-use Rattle.h2_frames.specs.declared.fault.H2Fault.{H2Fault}
-use Rattle.h2_frames.specs.declared.parts.FrameFed.{FrameFed}
+use Rattle.std.proofs.Common.{◌≡◌, ◌<◌, ◌≤◌, length, sym, ap, subst, ◌∙◌, rules}
 use Rattle.h2_frames.specs.FrameReader.{Kept}
 use Rattle.h2_frames.proofs.CallLemmas.{stuck-gives, head-gives, payload-gives, last-gives, last-frame, idle-gives, if-done, bytes-of, not-empty}
 use Rattle.h2_frames.proofs.reader.FrameReader.feed.Goals as goal
