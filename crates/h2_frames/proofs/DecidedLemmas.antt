@@ -10,7 +10,7 @@ use Rattle.h2_frames.specs.Http2Frame.{judged}
 use Rattle.h2_frames.proofs.FrontLemmas.{judged-many, size-take}
 use Rattle.h2_frames.proofs.GrowthLemmas.{either}
 
-abbrev IsDecided : Verdict → Type 0
+abbrev pub IsDecided : Verdict → Type 0
 IsDecided Undecided = ⊥
 IsDecided Keeps = Unit {0}
 IsDecided Breaks = Unit {0}
@@ -20,25 +20,25 @@ IsNotOpen Open = ⊥
 IsNotOpen Fine = Unit {0}
 IsNotOpen (Fault code) = Unit {0}
 
-known : (n : ℕ) (bs : List ℕ) (v : Verdict) → n ≤ length bs → IsDecided v → IsDecided (cond (nat_lt (length bs) n) Undecided v)
+pub known : (n : ℕ) (bs : List ℕ) (v : Verdict) → n ≤ length bs → IsDecided v → IsDecided (cond (nat_lt (length bs) n) Undecided v)
 known n bs v h d = subst (λ (b : Bool). IsDecided (cond b Undecided v)) (sym (le-ltb (length bs) n h)) d
 
-either_way : (b : Bool) (v w : Verdict) → IsDecided v → IsDecided w → IsDecided (cond b v w)
+pub either_way : (b : Bool) (v w : Verdict) → IsDecided v → IsDecided w → IsDecided (cond b v w)
 either_way true v w p q = p
 either_way false v w p q = q
 
-all_or_none : (a n : Bool) → (a ≡ false → n ≡ true) → IsDecided (of_all a n)
+pub all_or_none : (a n : Bool) → (a ≡ false → n ≡ true) → IsDecided (of_all a n)
 all_or_none true n h = tt
 all_or_none false n h = subst (λ (b : Bool). IsDecided (cond b Breaks Undecided)) (sym (h refl)) tt
 
-size_known : (bs : List ℕ) → 3 ≤ length bs → length_with 255 bs ≡ length_with 0 bs
+pub size_known : (bs : List ℕ) → 3 ≤ length bs → length_with 255 bs ≡ length_with 0 bs
 size_known bs h =
     let x : 0 < length bs = omega arith in
     let y : 1 < length bs = omega arith in
     let z : 2 < length bs = omega arith in
     omega (arith, get_or_default_zero bs 0 255 x, get_or_default_zero bs 1 255 y, get_or_default_zero bs 2 255 z)
 
-stream_known : (bs : List ℕ) → 9 ≤ length bs → stream_with 255 bs ≡ stream_with 0 bs
+pub stream_known : (bs : List ℕ) → 9 ≤ length bs → stream_with 255 bs ≡ stream_with 0 bs
 stream_known bs h =
     let x : 5 < length bs = omega arith in
     let y : 6 < length bs = omega arith in
@@ -58,34 +58,34 @@ some_or x y e h = grind (arith, nat_tests)
 none_or : (x y : ℕ) → y ≡ x → (y == 0) ≡ false → nat_lt 0 x ≡ true
 none_or x y e h = grind (arith, nat_tests)
 
-refusal_decided : (b : Bool) → IsDecided (breaks_if b)
+pub refusal_decided : (b : Bool) → IsDecided (breaks_if b)
 refusal_decided true = tt
 refusal_decided false = tt
 
-verdict_decided : (b : Bool) → IsDecided (keeps_if b)
+pub verdict_decided : (b : Bool) → IsDecided (keeps_if b)
 verdict_decided true = tt
 verdict_decided false = tt
 
-begins_decided : (first : Bool) (block : Option ℕ) (bs : List ℕ) → 4 ≤ length bs → 5 ≤ length bs → IsDecided (begins_with_settings (record { first = first; block = block }) bs)
+pub begins_decided : (first : Bool) (block : Option ℕ) (bs : List ℕ) → 4 ≤ length bs → 5 ≤ length bs → IsDecided (begins_with_settings (record { first = first; block = block }) bs)
 begins_decided false block bs p q = tt
 begins_decided true block bs p q = known 4 bs _ p (either_way (kind_of bs == SETTINGS) _ _ (known 5 bs _ q (refusal_decided _)) tt)
 
-follows_decided : (block : Option ℕ) (bs : List ℕ) → 4 ≤ length bs → 9 ≤ length bs → IsDecided (continues_block block bs)
+pub follows_decided : (block : Option ℕ) (bs : List ℕ) → 4 ≤ length bs → 9 ≤ length bs → IsDecided (continues_block block bs)
 follows_decided None bs p q = known 4 bs _ p (refusal_decided _)
 follows_decided (Some s) bs p q = known 4 bs _ p (either_way (kind_of bs == CONTINUATION) _ _ (all_or_none _ _ (stream_or _ _ s (stream_known bs q))) tt)
 
-stands_decided : (bs : List ℕ) → 4 ≤ length bs → 9 ≤ length bs → IsDecided (is_on_its_stream bs)
+pub stands_decided : (bs : List ℕ) → 4 ≤ length bs → 9 ≤ length bs → IsDecided (is_on_its_stream bs)
 stands_decided bs p q = known 4 bs _ p (either_way (is_of_stream (kind_of bs)) _ _ (all_or_none _ _ (some_or _ _ (stream_known bs q)))
     (either_way (is_of_connection (kind_of bs)) _ _ (all_or_none _ _ (none_or _ _ (stream_known bs q))) tt))
 
-fits_decided : (kind size : ℕ) (bs : List ℕ) → 5 ≤ length bs → IsDecided (fits_kind kind size bs)
+pub fits_decided : (kind size : ℕ) (bs : List ℕ) → 5 ≤ length bs → IsDecided (fits_kind kind size bs)
 fits_decided kind size bs q =
     either_way (kind == DATA || kind == HEADERS) _ _ (either_way (nat_le (fields_size kind 255) size) _ _ tt (known 5 bs _ q (verdict_decided _)))
     (either_way (kind == PRIORITY) _ _ (verdict_decided _) (either_way (kind == RST_STREAM || kind == WINDOW_UPDATE) _ _ (verdict_decided _)
     (either_way (kind == SETTINGS) _ _ (either_way (size == 0) _ _ tt (either_way (size % 6 == 0) _ _ (known 5 bs _ q (refusal_decided _)) tt))
     (either_way (kind == PING) _ _ (verdict_decided _) (either_way (kind == GOAWAY) _ _ (verdict_decided _) tt)))))
 
-pads_decided : (kind size : ℕ) (bs : List ℕ) → 5 ≤ length bs → 10 ≤ length bs → IsDecided (pads_kind kind size bs)
+pub pads_decided : (kind size : ℕ) (bs : List ℕ) → 5 ≤ length bs → 10 ≤ length bs → IsDecided (pads_kind kind size bs)
 pads_decided kind size bs q r = either_way (kind == DATA || kind == HEADERS) _ _ (either_way (nat_le (fields_size kind 255 + 255) size) _ _ tt (known 5 bs _ q
     (either_way (has_flag PADDED (flags_of bs)) _ _ (either_way (nat_le 255 (size - fields_size kind (flags_of bs))) _ _ tt (known 10 bs _ r (verdict_decided _))) tt))) tt
 
@@ -101,7 +101,7 @@ decided at bs r =
     let n : 9 ≤ length bs = omega arith in
     let t : 3 ≤ length bs = omega arith in
     judge_step _ 1 _ (begins_decided at.first at.block bs p q) (judge_step _ 6 _ (all_or_none _ _ (small_or _ _ MAX_FRAME_SIZE (size_known bs t))) (judge_step _ 1 _ (follows_decided at.block bs p n) (judge_step _ 1 _ (stands_decided bs p n)
-    (judge_step _ 1 _ (known 4 bs _ p (refusal_decided _)) (judge_step _ 6 _ (known 4 bs _ p (fits_decided (kind_of bs) (length_with 0 bs) bs q)) (judge_step _ 1 _ (known 4 bs _ p (pads_decided (kind_of bs) (length_with 0 bs) bs q r)) tt))))))
+    (judge_step _ 1 _ (known 4 bs _ p (refusal_decided _)) (judge_step _ 6 _ (known 4 bs _ p (fits_decided (kind_of bs) (length_with 0 bs) bs q)) (judge_step _ 1 _ (either_way (nat_le 261 (length_with 0 bs)) _ _ tt (known 4 bs _ p (pads_decided (kind_of bs) (length_with 0 bs) bs q r))) tt))))))
 
 -- a frame with no payload, whose padding no byte can decide
 
@@ -143,7 +143,7 @@ decided-short at bs n z =
     let t : 3 ≤ length bs = omega arith in
     judge_step _ PROTOCOL_ERROR _ (begins_decided at.first at.block bs p q) (judge_step _ FRAME_SIZE_ERROR _ (all_or_none _ _ (small_or _ _ MAX_FRAME_SIZE (size_known bs t))) (judge_step _ PROTOCOL_ERROR _ (follows_decided at.block bs p n) (judge_step _ PROTOCOL_ERROR _ (stands_decided bs p n)
     (judge_step _ PROTOCOL_ERROR _ (known 4 bs _ p (refusal_decided _)) (tail_by (has_size_of_kind bs) (has_padding_within bs) FRAME_SIZE_ERROR PROTOCOL_ERROR (known 4 bs _ p (fits_decided (kind_of bs) (length_with 0 bs) bs q))
-    (λ e. known 4 bs _ p (short-fields (kind_of bs) (length_with 0 bs) bs (kind_of bs == DATA || kind_of bs == HEADERS) _ q z (sym (kept-kind bs (fits_kind (kind_of bs) (length_with 0 bs) bs) p) ∙ e))))))))
+    (λ e. either_way (nat_le 261 (length_with 0 bs)) _ _ tt (known 4 bs _ p (short-fields (kind_of bs) (length_with 0 bs) bs (kind_of bs == DATA || kind_of bs == HEADERS) _ q z (sym (kept-kind bs (fits_kind (kind_of bs) (length_with 0 bs) bs) p) ∙ e)))))))))
 
 -- a whole frame leaves no rule undecided
 decided-whole : (at : Context) (bs : List ℕ) → 9 ≤ length bs → frame_size bs ≤ length bs → IsNotOpen (judge at (judged bs))

@@ -10,3 +10,7 @@ pub mod CallLemmas
 pub mod FreshLemmas
 pub mod ReadsBack
 pub mod RunLemmas
+pub mod FilledLemmas
+pub mod EarliestLemmas
+pub mod BlockLemmas
+pub mod SizeLemmas

@@ -97,9 +97,9 @@ pads_fields kind size bytes = if nat_le (fields_size kind 255 + 255) size then K
 abbrev pub pads_kind : ℕ → ℕ → List ℕ → Verdict
 pads_kind kind size bytes = if kind == DATA || kind == HEADERS then pads_fields kind size bytes else Keeps
 
--- the padding of DATA and HEADERS fits into what follows its length byte and the priority fields (sections 6.1 and 6.2)
+-- the padding of DATA and HEADERS fits into what follows its length byte and the priority fields (sections 6.1 and 6.2); a payload of 261 bytes has room for any
 abbrev pub has_padding_within : List ℕ → Verdict
-has_padding_within bytes = with_kind bytes (pads_kind (kind_of bytes) (length_with 0 bytes) bytes)
+has_padding_within bytes = if nat_le 261 (length_with 0 bytes) then Keeps else with_kind bytes (pads_kind (kind_of bytes) (length_with 0 bytes) bytes)
 
 -- the rules in order: not decided yet, all kept, or the code of the first that is broken
 pub data Judgement : Type 0 where

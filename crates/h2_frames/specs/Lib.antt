@@ -6,3 +6,4 @@ pub mod FrameWords
 pub mod FrameReader
 pub mod FrameSteps
 pub mod FrameRuns
+pub mod FrameVerdicts

@@ -1,9 +1,10 @@
 //! Laws of frames, for callers and for whoever checks the definitions (RFC 9113, section 4.1).
 
-ghost use Rattle.std.specs.Prelude.{◌≡◌, ◌≢◌, ◌<◌, ◌≤◌, ◌^◌, ◌++◌, ℕ, List, [], ◌∷◌, length, Some, None, Err};
+ghost use Rattle.std.specs.Prelude.{◌≡◌, ◌≢◌, ◌<◌, ◌≤◌, ◌^◌, ◌++◌, ℕ, List, [], ◌∷◌, length, Option, Some, None, IfSome, Err};
 ghost use Rattle.h2_frames.specs.declared.fault.H2Fault.{H2Fault};
 ghost use Rattle.h2_frames.specs.FrameHead.{Frame, frame_size, frame_bytes};
-ghost use Rattle.h2_frames.specs.FrameErrors.{Context, judge, Open};
+ghost use Rattle.h2_frames.specs.FrameErrors.{Context, judge, Open, begins_with_settings, is_within_limit, continues_block, is_on_its_stream, is_no_push, has_size_of_kind, has_padding_within};
+ghost use Rattle.h2_frames.specs.FrameVerdicts.{IsDecidedAtOnce};
 ghost use Rattle.h2_frames.specs.Http2Frame.{AreBytes, AreFrames, judged, frames_of, first_fault};
 ghost use Rattle.h2_frames.specs.FrameReader.{no_bytes, answer_of};
 ghost use Rattle.h2_frames.specs.FrameRuns.{FeedCall, IsRun, TellsFrames, taken_in_all, position_after_all};
@@ -12,6 +13,19 @@ ghost use Rattle.h2_frames.specs.FrameRuns.{FeedCall, IsRun, TellsFrames, taken_
 pub fn rules_are_decided()
     ensures { (at : Context) (bytes : List ℕ)
         → 9 ≤ length bytes → frame_size bytes ≤ length bytes → judge at (judged bytes) ≢ Open }
+{}
+
+/// Each rule is decided by the first byte with which it must be: what is decided stays, and what
+/// is not may still go either way.
+pub fn rules_are_decided_at_once()
+    ensures settings { (at : Context) → IsDecidedAtOnce (begins_with_settings at) }
+    ensures limit { IsDecidedAtOnce is_within_limit }
+    ensures block { (block : Option ℕ) → IfSome block (λ stream. stream < 2 ^ 31)
+        → IsDecidedAtOnce (continues_block block) }
+    ensures stream { IsDecidedAtOnce is_on_its_stream }
+    ensures push { IsDecidedAtOnce is_no_push }
+    ensures size { IsDecidedAtOnce has_size_of_kind }
+    ensures padding { IsDecidedAtOnce has_padding_within }
 {}
 
 /// Whatever bytes come, the first fault and the frames before it stay.

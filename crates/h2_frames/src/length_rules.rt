@@ -139,6 +139,9 @@ fn pads_kind(kind: u8, size: u32, bytes: &[u8]) -> Verdict
 pub(crate) fn has_padding_within(bytes: &[u8]) -> Verdict
     ensures { verdict_of result ≡ padding_within bytes.now }
 {
+    if 261 <= length_with(0, bytes) {
+        return Verdict::Keeps;
+    }
     if bytes.len() < 4 {
         return Verdict::Undecided;
     }
