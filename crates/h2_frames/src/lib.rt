@@ -25,7 +25,10 @@ mod verdict;
 mod writer;
 
 pub use fault::H2Fault;
-pub use laws::{faults_and_frames_stay, frames_are_read_back, parts_are_frames, rules_are_decided};
+pub use laws::{
+    faults_and_frames_stay, frames_are_read_back, parts_are_frames, rules_are_decided,
+    rules_are_decided_at_once,
+};
 pub use parts::{FrameFed, Part};
 pub use reader::FrameReader;
 pub use writer::put_frame;
