@@ -10,6 +10,7 @@ pub record Allowance : Type 0 where
   pub consumed : ℕ
   pub held : ℕ
 
+-- the allowance with these four numbers
 abbrev pub allowance : ℕ → ℕ → ℕ → ℕ → Allowance
 allowance full rest consumed held = record { full = full; rest = rest; consumed = consumed; held = held }
 

@@ -10,7 +10,7 @@ use Rattle.h2_frames.specs.declared.parts.Part.{Part}
 use Rattle.h2_frames.specs.declared.parts.Part.TheVariants.{Begin, Piece, Done}
 use Rattle.h2_frames.specs.FrameHead.{length_with, stream_with, kind_of, flags_of, frame_size, Frame, frame_of}
 use Rattle.h2_frames.specs.Http2Frame.{AreBytes, AreFrames, cut, behind, front, Whole, frames_of, rest_of, first_fault}
-use Rattle.h2_frames.specs.FrameReader.{Position, no_bytes, bytes_read, taken_of, part_of, begin_of, fed_of, bytes_after, answer_by, answer_of, position_by}
+use Rattle.h2_frames.specs.FrameReader.{Position, no_bytes, bytes_read, taken_of, part_of, begin_of, fed_of, bytes_after, answer_by, answer_of, position_by, IsPart}
 use Rattle.h2_frames.specs.FrameRuns.{FeedCall, taken_in, taken_in_all, position_after_all, IsRun, Told, nothing_told, told_by, told_by_all, current_of, TellsFrames}
 use Rattle.h2_frames.proofs.FrontLemmas.{size-append, frame_size-append}
 use Rattle.h2_frames.proofs.GrowthLemmas.{either, bytes-append, bytes-take, bytes-drop}
@@ -150,6 +150,16 @@ adds-by None p bytes h = record { is = sym (append_assoc p.before p.seen bytes) 
 adds-by (Some (Begin size kind flags stream)) p bytes h = record { is = sym (append_assoc p.before p.seen bytes) }
 adds-by (Some (Piece n)) p bytes h = record { is = sym (append_assoc p.before p.seen bytes) }
 adds-by (Some Done) p bytes h = record { is = ap (λ xs. (p.before ++ p.seen) ++ xs) (sym (h refl)) }
+
+nothing-of : (taken : ℕ) (o : Option Part) (bytes : List ℕ) → IsPart taken o → o ≡ Some Done → take taken bytes ≡ []
+nothing-of taken None bytes h e = absurd (cc)
+nothing-of taken (Some (Begin size kind flags stream)) bytes h e = let same : Begin size kind flags stream ≡ Done = cc in absurd (cc)
+nothing-of taken (Some (Piece n)) bytes h e = let same : Piece n ≡ Done = cc in absurd (cc)
+nothing-of taken (Some Done) bytes h e = ap (λ n. take n bytes) h
+
+-- an answer adds the bytes that are taken
+pub position_after-reads : (p : Position) (bytes : List ℕ) (fed : FrameFed) → IsPart fed.taken fed.part → bytes_read (position_by fed.part p (take fed.taken bytes)) ≡ bytes_read p ++ take fed.taken bytes
+position_after-reads p bytes fed h = let a = adds-by fed.part p (take fed.taken bytes) (nothing-of fed.taken fed.part bytes h) in a.is
 
 done-by : (seen bytes : List ℕ) → part_of seen bytes ≡ Some Done → (9 ≤ length seen → length seen ≤ frame_size seen) → taken_of seen bytes ≡ 0
 done-by seen bytes h most = either (length seen) 9

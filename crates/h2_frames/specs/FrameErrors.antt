@@ -16,9 +16,11 @@ pub data Verdict : Type 0 where
   Keeps : Verdict
   Breaks : Verdict
 
+-- kept where a test holds
 abbrev pub keeps_if : Bool → Verdict
 keeps_if holds = if holds then Keeps else Breaks
 
+-- broken where a test holds
 abbrev pub breaks_if : Bool → Verdict
 breaks_if broken = if broken then Breaks else Keeps
 
@@ -45,11 +47,15 @@ is_within_limit bytes = of_all (nat_le (length_with 255 bytes) MAX_FRAME_SIZE) (
 -- an open field block is followed by CONTINUATION of its stream alone, and CONTINUATION stands nowhere else (sections 4.3 and 6.10)
 abbrev pub continues_block : Option ℕ → List ℕ → Verdict
 continues_block None bytes = with_kind bytes (breaks_if (kind_of bytes == CONTINUATION))
-continues_block (Some stream) bytes = with_kind bytes (if kind_of bytes == CONTINUATION then of_all (stream_with 0 bytes == stream && stream_with 255 bytes == stream) (nat_lt stream (stream_with 0 bytes) || nat_lt (stream_with 255 bytes) stream) else Breaks)
+continues_block (Some stream) bytes = with_kind bytes (if kind_of bytes == CONTINUATION
+    then of_all (stream_with 0 bytes == stream && stream_with 255 bytes == stream) (nat_lt stream (stream_with 0 bytes) || nat_lt (stream_with 255 bytes) stream)
+    else Breaks)
 
+-- the types of frames of a stream
 abbrev pub is_of_stream : ℕ → Bool
 is_of_stream kind = kind == DATA || kind == HEADERS || kind == PRIORITY || kind == RST_STREAM || kind == PUSH_PROMISE
 
+-- the types of frames of the whole connection
 abbrev pub is_of_connection : ℕ → Bool
 is_of_connection kind = kind == SETTINGS || kind == PING || kind == GOAWAY
 
@@ -74,6 +80,7 @@ fits_settings size bytes = if size == 0 then Keeps else (if size % 6 == 0 then w
 abbrev pub fits_fields : ℕ → ℕ → List ℕ → Verdict
 fits_fields kind size bytes = if nat_le (fields_size kind 255) size then Keeps else with_flags bytes (keeps_if (nat_le (fields_size kind (flags_of bytes)) size))
 
+-- the size that each type asks for
 abbrev pub fits_kind : ℕ → ℕ → List ℕ → Verdict
 fits_kind kind size bytes =
     if kind == DATA || kind == HEADERS then fits_fields kind size bytes
@@ -88,12 +95,16 @@ fits_kind kind size bytes =
 abbrev pub has_size_of_kind : List ℕ → Verdict
 has_size_of_kind bytes = with_kind bytes (fits_kind (kind_of bytes) (length_with 0 bytes) bytes)
 
+-- the pad length is at most the room for padding, which 255 bytes always are
 abbrev pub pads_within : ℕ → List ℕ → Verdict
 pads_within room bytes = if nat_le 255 room then Keeps else (if nat_lt (length bytes) 10 then Undecided else keeps_if (nat_le (slice_index_or bytes 9 0) room))
 
+-- the room for padding is what follows the pad length and the priority fields
 abbrev pub pads_fields : ℕ → ℕ → List ℕ → Verdict
-pads_fields kind size bytes = if nat_le (fields_size kind 255 + 255) size then Keeps else with_flags bytes (if has_flag PADDED (flags_of bytes) then pads_within (size - fields_size kind (flags_of bytes)) bytes else Keeps)
+pads_fields kind size bytes = if nat_le (fields_size kind 255 + 255) size then Keeps
+    else with_flags bytes (if has_flag PADDED (flags_of bytes) then pads_within (size - fields_size kind (flags_of bytes)) bytes else Keeps)
 
+-- DATA and HEADERS have padding
 abbrev pub pads_kind : ℕ → ℕ → List ℕ → Verdict
 pads_kind kind size bytes = if kind == DATA || kind == HEADERS then pads_fields kind size bytes else Keeps
 

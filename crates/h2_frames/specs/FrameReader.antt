@@ -25,6 +25,7 @@ bytes_read p = p.before ++ p.seen
 abbrev pub taken_of : List ℕ → List ℕ → ℕ
 taken_of seen bytes = if nat_lt (length seen) 9 then min (9 - length seen) (length bytes) else min (frame_size seen - length seen) (length bytes)
 
+-- the part that a whole head is
 abbrev pub begin_of : List ℕ → Part
 begin_of head = Begin (length_with 0 head) (kind_of head) (flags_of head) (stream_with 0 head)
 
@@ -35,6 +36,7 @@ part_of seen bytes = if nat_lt (length seen) 9
     else (if nat_le (frame_size seen) (length seen) then Some Done
     else (if length bytes == 0 then None else Some (Piece (taken_of seen bytes))))
 
+-- the answer where no rule is broken
 abbrev pub fed_of : List ℕ → List ℕ → FrameFed
 fed_of seen bytes = record { taken = taken_of seen bytes; part = part_of seen bytes }
 
@@ -42,6 +44,7 @@ fed_of seen bytes = record { taken = taken_of seen bytes; part = part_of seen by
 abbrev pub bytes_after : Position → List ℕ → List ℕ
 bytes_after p bytes = p.before ++ (p.seen ++ take (taken_of p.seen bytes) bytes)
 
+-- a fault is the answer, and without one the part
 abbrev pub answer_by : Option H2Fault → FrameFed → Result FrameFed H2Fault
 answer_by None fed = Ok fed
 answer_by (Some f) fed = Err f
@@ -71,6 +74,7 @@ pub record Kept : Type 0 where
   pub left : ℕ
   pub fault : Option H2Fault
 
+-- no rule is broken so far
 abbrev pub IsNoFault : Judgement → Type 0
 IsNoFault Open = Unit {0}
 IsNoFault Fine = Unit {0}
@@ -93,6 +97,7 @@ pub record StandsBroken (f : H2Fault) (before seen : List ℕ) : Type 0 where
   pub place : f.place ≡ place_of (length before)
   pub bytes : AreBytes seen
 
+-- the one or the other
 abbrev pub StandsBy : Option H2Fault → Kept → Position → Type 0
 StandsBy None kept p = StandsAt kept p.before p.seen
 StandsBy (Some f) kept p = StandsBroken f p.before p.seen

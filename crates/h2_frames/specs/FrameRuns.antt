@@ -37,6 +37,7 @@ pub record Told : Type 0 where
   pub frames : List Frame
   pub current : Option Frame
 
+-- nothing came
 abbrev pub nothing_told : Told
 nothing_told = record { frames = []; current = None }
 
@@ -51,6 +52,7 @@ told_by (Some (Begin size kind flags stream)) bytes told = record { frames = tol
 told_by (Some (Piece n)) bytes told = record { frames = told.frames; current = option_map (with_more (drop (length bytes - n) bytes)) told.current }
 told_by (Some Done) bytes told = record { frames = told.frames ++ option_to_list told.current; current = None }
 
+-- the parts of all calls
 abbrev pub told_by_all : Told → List FeedCall → Told
 told_by_all told [] = told
 told_by_all told (call ∷ calls) = told_by_all (told_by call.fed.part (taken_in call) told) calls

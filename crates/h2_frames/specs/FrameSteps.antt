@@ -22,6 +22,7 @@ head_with kept bytes = kept.head ++ take (9 - length kept.head) bytes
 abbrev pub pad_with : Kept → List ℕ → List ℕ
 pad_with kept bytes = kept.head ++ take (min kept.left (10 - length kept.head)) bytes
 
+-- the frame that is read breaks a rule, and this is kept
 abbrev pub IsRefusal : Kept → List ℕ → H2Fault → Kept → Type 0
 IsRefusal old next f new = (new ≡ record old { head = next; fault = Some f }) × (f.place ≡ old.place) × (judge old.context next ≡ Fault f.code)
 

@@ -16,9 +16,11 @@ pub data Front : Type 0 where
   Broken : (code : ℕ) → Front
   Whole : (frame rest : List ℕ) → Front
 
+-- what stands at the front where no rule is broken
 abbrev pub whole_of : List ℕ → Front
 whole_of bytes = if nat_lt (length bytes) 9 then Short else (if nat_lt (length bytes) (frame_size bytes) then Short else Whole (take (frame_size bytes) bytes) (drop (frame_size bytes) bytes))
 
+-- what stands at the front by its judgement
 abbrev pub front_of : Judgement → List ℕ → Front
 front_of (Fault code) bytes = Broken code
 front_of Open bytes = whole_of bytes
@@ -28,12 +30,17 @@ front_of Fine bytes = whole_of bytes
 abbrev pub judged : List ℕ → List ℕ
 judged bytes = if nat_lt (length bytes) 9 then bytes else take (min 10 (frame_size bytes)) bytes
 
+-- what stands at the front of bytes in a context
 abbrev pub front : Context → List ℕ → Front
 front at bytes = front_of (judge at (judged bytes)) bytes
 
 -- where the frame behind a frame stands: HEADERS and CONTINUATION without END_HEADERS leave a field block open (section 4.3)
 abbrev pub after : Context → List ℕ → Context
-after at frame = record { first = false; block = if kind_of frame == HEADERS || kind_of frame == CONTINUATION then (if has_flag END_HEADERS (flags_of frame) then None else Some (stream_with 0 frame)) else at.block }
+after at frame = record {
+  first = false;
+  block =
+      if kind_of frame == HEADERS || kind_of frame == CONTINUATION then (if has_flag END_HEADERS (flags_of frame) then None else Some (stream_with 0 frame)) else at.block;
+}
 
 -- where the first frame stands
 abbrev pub start : Context
@@ -50,6 +57,7 @@ pub record Cut : Type 0 where
 abbrev pub behind : List (List ℕ) → Cut → Cut
 behind frames c = record { frames = frames ++ c.frames; rest = c.rest; context = c.context; fault = c.fault }
 
+-- the frames of bytes by what stands at their front
 abbrev pub goes_on : (Context → List ℕ → Cut) → Context → List ℕ → Front → Cut
 goes_on go at bytes Short = record { frames = []; rest = bytes; context = at; fault = None }
 goes_on go at bytes (Broken code) = record { frames = []; rest = bytes; context = at; fault = Some code }
@@ -80,6 +88,7 @@ rest_of bytes = (cut bytes).rest
 abbrev pub place_of : ℕ → ℕ
 place_of n = min n (2 ^ 64 - 1)
 
+-- a broken rule with the offset of its frame
 abbrev pub fault_at : ℕ → Option ℕ → Option H2Fault
 fault_at place None = None
 fault_at place (Some code) = Some (record { place = place_of place; code = code })

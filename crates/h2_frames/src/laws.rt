@@ -1,12 +1,13 @@
 //! Laws of frames, for callers and for whoever checks the definitions (RFC 9113, section 4.1).
 
-ghost use Rattle.std.specs.Prelude.{◌≡◌, ◌≢◌, ◌<◌, ◌≤◌, ◌^◌, ◌++◌, ℕ, List, [], ◌∷◌, length, Option, Some, None, IfSome, Err};
+ghost use Rattle.std.specs.Prelude.{◌≡◌, ◌≢◌, ◌<◌, ◌≤◌, ◌^◌, ◌++◌, ℕ, List, [], ◌∷◌, length, take, Option, Some, None, IfSome, Ok, Err};
 ghost use Rattle.h2_frames.specs.declared.fault.H2Fault.{H2Fault};
 ghost use Rattle.h2_frames.specs.FrameHead.{Frame, frame_size, frame_bytes};
 ghost use Rattle.h2_frames.specs.FrameErrors.{Context, judge, Open, begins_with_settings, is_within_limit, continues_block, is_on_its_stream, is_no_push, has_size_of_kind, has_padding_within};
 ghost use Rattle.h2_frames.specs.FrameVerdicts.{IsDecidedAtOnce};
 ghost use Rattle.h2_frames.specs.Http2Frame.{AreBytes, AreFrames, judged, frames_of, first_fault};
-ghost use Rattle.h2_frames.specs.FrameReader.{no_bytes, answer_of};
+ghost use Rattle.h2_frames.specs.FrameReader.{Position, no_bytes, bytes_read, position_after, answer_of, IsPart};
+ghost use Rattle.h2_frames.specs.declared.parts.FrameFed.{FrameFed};
 ghost use Rattle.h2_frames.specs.FrameRuns.{FeedCall, IsRun, TellsFrames, taken_in_all, position_after_all};
 
 /// A frame that is whole leaves no rule undecided.
@@ -51,9 +52,11 @@ pub fn frames_are_read_back()
 {}
 
 /// However a list of bytes is given to a reader, the parts of its answers are the frames of the
-/// whole list, up to the first fault of that list.
+/// whole list, up to the first fault of that list. Each call adds the bytes that it takes.
 pub fn parts_are_frames()
     ensures parts { (calls : List FeedCall) → IsRun no_bytes calls → TellsFrames calls }
+    ensures read { (p : Position) (bytes : List ℕ) (fed : FrameFed) → IsPart fed.taken fed.part
+        → bytes_read (position_after (Ok fed) p bytes) ≡ bytes_read p ++ take fed.taken bytes }
     ensures refused { (calls : List FeedCall) (bytes more : List ℕ) (f : H2Fault)
         → IsRun no_bytes calls → answer_of (position_after_all no_bytes calls) bytes ≡ Err f
         → AreBytes (taken_in_all calls) → AreBytes bytes → AreBytes more
