@@ -1,52 +1,52 @@
 //! The constants of HTTP/2 frames, by their names in RFC 9113.
 
-/// The bytes of a frame's head (section 4.1).
+/// The bytes of a frame's head (RFC 9113, section 4.1).
 pub const FRAME_HEAD_BYTES: u32 = 9;
 
 /// The largest payload in bytes until a SETTINGS says otherwise: the initial value of
-/// SETTINGS_MAX_FRAME_SIZE (sections 4.2 and 6.5.2). This end never raises it.
+/// SETTINGS_MAX_FRAME_SIZE (RFC 9113, sections 4.2 and 6.5.2). This end never raises it.
 pub const MAX_FRAME_SIZE: u32 = 16_384;
 
-/// The stream of frames for the whole connection (section 5.1.1).
+/// The stream of frames for the whole connection (RFC 9113, section 5.1.1).
 pub const CONNECTION_STREAM: u32 = 0;
 
-// Frame types (section 6).
+// Frame types (RFC 9113, section 6).
 
-/// Section 6.1.
+/// Data of a stream (RFC 9113, section 6.1).
 pub const DATA: u8 = 0x00;
-/// Section 6.2.
+/// Begins a field block (RFC 9113, section 6.2).
 pub const HEADERS: u8 = 0x01;
-/// Section 6.3.
+/// Deprecated, and without effect (RFC 9113, section 6.3).
 pub const PRIORITY: u8 = 0x02;
-/// Section 6.4.
+/// Ends a stream at once (RFC 9113, section 6.4).
 pub const RST_STREAM: u8 = 0x03;
-/// Section 6.5.
+/// Parameters of the connection, or their acknowledgement (RFC 9113, section 6.5).
 pub const SETTINGS: u8 = 0x04;
-/// Section 6.6.
+/// Server push, which does not come (RFC 9113, section 6.6).
 pub const PUSH_PROMISE: u8 = 0x05;
-/// Section 6.7.
+/// A round trip, or its answer (RFC 9113, section 6.7).
 pub const PING: u8 = 0x06;
-/// Section 6.8.
+/// The last stream that is processed (RFC 9113, section 6.8).
 pub const GOAWAY: u8 = 0x07;
-/// Section 6.9.
+/// An increment of a window (RFC 9113, section 6.9).
 pub const WINDOW_UPDATE: u8 = 0x08;
-/// Section 6.10.
+/// Goes on with a field block (RFC 9113, section 6.10).
 pub const CONTINUATION: u8 = 0x09;
 
-// Flags.
+// Flags, each of some frame types.
 
-/// Of DATA and HEADERS (sections 6.1 and 6.2).
+/// The last frame of a stream: DATA and HEADERS (RFC 9113, sections 6.1 and 6.2).
 pub const END_STREAM: u8 = 0x01;
-/// Of SETTINGS and PING (sections 6.5 and 6.7).
+/// An acknowledgement: SETTINGS and PING (RFC 9113, sections 6.5 and 6.7).
 pub const ACK: u8 = 0x01;
-/// Of HEADERS and CONTINUATION (sections 6.2 and 6.10).
+/// The end of a field block: HEADERS and CONTINUATION (RFC 9113, sections 6.2 and 6.10).
 pub const END_HEADERS: u8 = 0x04;
-/// Of DATA and HEADERS (sections 6.1 and 6.2).
+/// A pad length and padding: DATA and HEADERS (RFC 9113, sections 6.1 and 6.2).
 pub const PADDED: u8 = 0x08;
-/// The flag PRIORITY of HEADERS (section 6.2).
+/// The flag PRIORITY: priority fields of HEADERS (RFC 9113, section 6.2).
 pub const PRIORITY_FLAG: u8 = 0x20;
 
-// Settings (section 6.5.2).
+// Settings (RFC 9113, section 6.5.2).
 
 /// The size in bytes of the table that this end's decoder may be asked to keep.
 pub const SETTINGS_HEADER_TABLE_SIZE: u16 = 0x01;
@@ -61,7 +61,7 @@ pub const SETTINGS_MAX_FRAME_SIZE: u16 = 0x05;
 /// The size in bytes of a field section.
 pub const SETTINGS_MAX_HEADER_LIST_SIZE: u16 = 0x06;
 
-// Error codes (section 7).
+// Error codes (RFC 9113, section 7).
 
 /// No error: a shutdown, or a stream that is not needed.
 pub const NO_ERROR: u32 = 0x00;
