@@ -1,0 +1,23 @@
+//! Laws over lists of calls: each state is the sum that its calls say (RFC 9113, section 6.9.1).
+
+ghost use Rattle.std.specs.Prelude.{◌≡◌, List, ℤ, ◌+ℤ◌};
+ghost use Rattle.flow_windows.specs.Window.{WindowCall, IsWindowSize, MayChangeAll, AllCount, window_after_all, changes_of, sum_of_changes};
+ghost use Rattle.flow_windows.specs.Receipt.{Allowance, ReceiptCall, MayCountAll, IsSumOfCalls, allowance_after_all};
+
+/// After any list of calls of a `Window` it is what it was and the sum of the changes that were
+/// not refused, and in range.
+pub fn window_is_sum_of_calls()
+    ensures sum { (start : ℤ) (calls : List WindowCall)
+        → window_after_all start calls ≡ start +ℤ changes_of start calls }
+    ensures range { (start : ℤ) (calls : List WindowCall)
+        → IsWindowSize start → MayChangeAll start calls → IsWindowSize (window_after_all start calls) }
+    ensures all { (start : ℤ) (calls : List WindowCall)
+        → AllCount start calls → window_after_all start calls ≡ start +ℤ sum_of_changes calls }
+{}
+
+/// After any list of calls of a `Receipt` what the peer may send, what was consumed and what is
+/// held are the sums of what came, was consumed and was granted.
+pub fn receipt_is_sum_of_calls()
+    ensures { (start : Allowance) (calls : List ReceiptCall)
+        → MayCountAll start calls → IsSumOfCalls start calls (allowance_after_all start calls) }
+{}

@@ -1,0 +1,9 @@
+-- What contracts of this crate cite.
+pub mod FrameHead
+pub mod FrameErrors
+pub mod Http2Frame
+pub mod FrameWords
+pub mod FrameReader
+pub mod FrameSteps
+pub mod FrameRuns
+pub mod FrameVerdicts

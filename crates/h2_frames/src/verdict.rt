@@ -1,0 +1,75 @@
+//! What the bytes of a frame that have come say of a rule.
+
+ghost use Rattle.std.specs.Prelude.{◌≡◌};
+ghost use Rattle.h2_frames.specs.FrameErrors.{keeps_if as keeps, breaks_if as breaks, of_all as all_or_none, first_broken as first};
+ghost use Rattle.h2_frames.specs.FrameWords.{verdict_of, judgement_of};
+
+/// Where a frame stands among the frames.
+#[derive(Clone, Copy)]
+pub(crate) struct Context {
+    /// No frame came before it.
+    pub(crate) first: bool,
+    /// The stream of the field block that is open (RFC 9113, section 4.3).
+    pub(crate) block: Option<u32>,
+}
+
+/// A rule, as far as the bytes that have come decide it.
+#[derive(Clone, Copy)]
+pub(crate) enum Verdict {
+    Undecided,
+    Keeps,
+    Breaks,
+}
+
+/// All rules, in order.
+#[derive(Clone, Copy)]
+pub(crate) enum Judgement {
+    Open,
+    Fine,
+    Fault(u32),
+}
+
+pub(crate) fn keeps_if(holds: bool) -> Verdict
+    ensures { verdict_of result ≡ keeps holds }
+{
+    if holds {
+        Verdict::Keeps
+    } else {
+        Verdict::Breaks
+    }
+}
+
+pub(crate) fn breaks_if(broken: bool) -> Verdict
+    ensures { verdict_of result ≡ breaks broken }
+{
+    if broken {
+        Verdict::Breaks
+    } else {
+        Verdict::Keeps
+    }
+}
+
+/// A rule on a number of which some bytes have not come: whether all numbers in reach keep it,
+/// and whether none does.
+pub(crate) fn of_all(all: bool, none: bool) -> Verdict
+    ensures { verdict_of result ≡ all_or_none all none }
+{
+    if all {
+        Verdict::Keeps
+    } else if none {
+        Verdict::Breaks
+    } else {
+        Verdict::Undecided
+    }
+}
+
+/// What a rule and those behind it say.
+pub(crate) fn first_broken(verdict: Verdict, code: u32, rest: Judgement) -> Judgement
+    ensures { judgement_of result ≡ first (verdict_of verdict) code (judgement_of rest) }
+{
+    match verdict {
+        Verdict::Undecided => Judgement::Open,
+        Verdict::Breaks => Judgement::Fault(code),
+        Verdict::Keeps => rest,
+    }
+}
