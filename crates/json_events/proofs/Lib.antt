@@ -1,0 +1,6 @@
+pub mod EscapedLemmas
+pub mod SpellingLemmas
+pub mod DecimalLemmas
+pub mod StandardFacts
+pub mod StringLemmas
+pub mod NumberLemmas
