@@ -1,7 +1,7 @@
 //! Taking messages from a stream that comes in any pieces.
 ghost use Rattle.std.specs.Prelude.{◌≡◌, ◌++◌, ◌+◌, ◌<◌, ◌≤◌, ◌-◌, ◌↔◌, ℕ, List, [], length, drop, min, take, IfOk, IfErr, IfSome, IsOk, IsSome, OnOk, OnErr};
 ghost use Rattle.grpc_frames.specs.LengthPrefixed.{front, Incomplete};
-ghost use Rattle.grpc_frames.specs.Deframer.{Stands, buffered_bytes};
+ghost use Rattle.grpc_frames.specs.Deframer.{Stands, buffered_bytes, saturated};
 ghost use Rattle.grpc_frames.specs.DeframerSteps.{IsProgress, IsStep};
 ghost use Rattle.grpc_frames.specs.FeedAnswers.{fed_bytes, Answers, EndsBetweenMessages, IsEndFault};
 
@@ -137,15 +137,11 @@ impl Deframer {
                 Err(refused)
             }
             Ok(Progress::Complete(taken)) => {
-                drop_front(&mut self.rest, PREFIX_BYTES);
-                let message = mem::replace(&mut self.rest, Vec::new(self.alloc));
-                self.place = self
-                    .place
-                    .saturating_add(PREFIX_BYTES as u64)
-                    .saturating_add(message.len() as u64);
+                let message = take_message(self.alloc, &mut self.rest);
+                self.place = place_behind(self.place, message.len());
                 Ok(Deframed {
                     taken,
-                    message: Some(Blob::from_vec(message)),
+                    message: Some(message),
                 })
             }
         }
@@ -186,10 +182,21 @@ fn take_in(limit: u32, kept: &mut Vec<u8>, bytes: &[u8]) -> Result<Progress, NoM
     }
 }
 
-/// Takes bytes off the front.
-fn drop_front(v: &mut Vec<u8>, n: usize)
-    requires { n ≤ length v.old.items }
-    ensures { v.new.items ≡ drop n v.old.items }
+/// Takes out the message behind its prefix. Takes no memory.
+fn take_message(alloc: Global, kept: &mut Vec<u8>) -> Blob
+    requires { 5 ≤ length kept.old.items }
+    ensures message { result ≡ drop 5 kept.old.items }
+    ensures rest { kept.new.items ≡ [] }
 {
-    v.drain(..n);
+    kept.drain(..PREFIX_BYTES);
+    Blob::from_vec(mem::replace(kept, Vec::new(alloc)))
+}
+
+/// The place of the flag behind a message.
+fn place_behind(place: u64, size: usize) -> u64
+    ensures { result ≡ saturated (place + 5 + size) }
+{
+    place
+        .saturating_add(PREFIX_BYTES as u64)
+        .saturating_add(size as u64)
 }

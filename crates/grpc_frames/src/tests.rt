@@ -124,3 +124,22 @@ fn a_frame_has_flag_length_and_message(rt: HostRuntime) -> Result<(), Fail> {
     assert_eq!(rt; back, [5; 258].as_slice());
     Ok(())
 }
+
+#[test]
+fn faults_are_printed(rt: HostRuntime) -> Result<(), Fail> {
+    let rows: [(FrameFault, &str); 5] = [
+        (FrameFault::Compressed(7), "compressed message at byte 7"),
+        (FrameFault::BadFlag(0), "bad message flag at byte 0"),
+        (
+            FrameFault::TooLong(5, 6),
+            "message of 6 bytes too long at byte 5",
+        ),
+        (FrameFault::Cut(5), "message cut at byte 5"),
+        (FrameFault::NoMemory, "out of memory"),
+    ];
+    for (fault, text) in rows {
+        let printed = format!(in rt.alloc(); "{fault}")?;
+        assert_eq!(rt; printed.as_str(), text);
+    }
+    Ok(())
+}
