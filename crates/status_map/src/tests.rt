@@ -11,25 +11,10 @@ fn codes_have_their_statuses(rt: HostRuntime) {
         assert_eq!(rt; http_of(code.min(255) as u8), *status, "code {code}");
     }
     assert_eq!(rt; http_of(255), 500);
+    #[rattlefmt::skip]
     let codes: [(u16, u8); 18] = [
-        (400, 13),
-        (401, 16),
-        (403, 7),
-        (404, 12),
-        (429, 14),
-        (502, 14),
-        (503, 14),
-        (504, 14),
-        (0, 2),
-        (200, 2),
-        (301, 2),
-        (402, 2),
-        (405, 2),
-        (428, 2),
-        (500, 2),
-        (501, 2),
-        (505, 2),
-        (65_535, 2),
+        (400, 13), (401, 16), (403, 7), (404, 12), (429, 14), (502, 14), (503, 14), (504, 14),
+        (0, 2), (200, 2), (301, 2), (402, 2), (405, 2), (428, 2), (500, 2), (501, 2), (505, 2), (65_535, 2),
     ];
     for (status, code) in codes {
         assert_eq!(rt; code_of_http(status), code, "status {status}");
@@ -47,7 +32,7 @@ fn codes_have_their_statuses(rt: HostRuntime) {
 
 #[test]
 fn messages_are_read(rt: HostRuntime) -> Result<(), Fail> {
-    let rows: [(&[u8], &[u8]); 14] = [
+    let rows: [(&[u8], &[u8]); 16] = [
         (b"", b""),
         (b"not found", b"not found"),
         (b"a%20b", b"a b"),
@@ -60,6 +45,8 @@ fn messages_are_read(rt: HostRuntime) -> Result<(), Fail> {
         (b"%%41", b"%A"),
         (b"%2%41", b"%2A"),
         (b"a+b", b"a+b"),
+        (b"%80%C0%AF", &[0x80, 0xc0, 0xaf]),
+        (b"%ED%A0%80%E2%82", &[0xed, 0xa0, 0x80, 0xe2, 0x82]),
         (&[0xff, b'%', b'0', b'0'], &[0xff, 0]),
         ("é%".as_bytes(), "é%".as_bytes()),
     ];
@@ -72,7 +59,7 @@ fn messages_are_read(rt: HostRuntime) -> Result<(), Fail> {
 
 #[test]
 fn messages_are_put(rt: HostRuntime) -> Result<(), Fail> {
-    let rows: [(&[u8], &[u8]); 9] = [
+    let rows: [(&[u8], &[u8]); 11] = [
         (b"", b""),
         (
             b" !\"#$&'()*+,-./09:;<=>?@AZ[\\]^_`az{|}~",
@@ -85,6 +72,8 @@ fn messages_are_put(rt: HostRuntime) -> Result<(), Fail> {
         ("é".as_bytes(), b"%C3%A9"),
         (&[0x80, 0xff, b'a'], b"%80%FFa"),
         (&[0xed, 0xa0, 0x80], b"%ED%A0%80"),
+        (&[0xc0, 0xaf], b"%C0%AF"),
+        (&[0xe2, 0x82], b"%E2%82"),
     ];
     for (text, wanted) in rows {
         let mut out = [b'x'].to_vec(rt.alloc())?;
