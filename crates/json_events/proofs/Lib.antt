@@ -4,3 +4,4 @@ pub mod DecimalLemmas
 pub mod StandardFacts
 pub mod StringLemmas
 pub mod NumberLemmas
+pub mod Utf8Lemmas

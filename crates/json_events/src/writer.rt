@@ -1,5 +1,5 @@
 //! Appending strings and numbers (RFC 8259, sections 6 and 7).
-ghost use Rattle.std.specs.Prelude.{ℕ, ℤ, List, ◌≡◌, ◌++◌, ◌≤◌, ◌<◌, pos, slice_index, IsTrue, length, take, decimal, OnOk, OnErr};
+ghost use Rattle.std.specs.Prelude.{ℕ, ℤ, List, ◌≡◌, ◌++◌, ◌≤◌, ◌<◌, pos, slice_index, IsTrue, length, take, decimal, IsUtf8, OnOk, OnErr};
 ghost use Rattle.std.specs.Char.{digit_char};
 ghost use Rattle.std.specs.Fmt.{signed_decimal};
 ghost use Rattle.json_events.specs.JsonNumbers.{DenotesInteger};
@@ -59,10 +59,11 @@ pub fn put_i64(out: &mut Vec<u8>, n: i64) -> Result<(), NoMemory>
     Ok(())
 }
 
-/// A string stands for one text, and a number is one integer at most: so what the writers append means
-/// their argument and nothing else.
+/// A string stands for one text, which is UTF-8, and a number is one integer at most: so what the
+/// writers append means their argument and nothing else.
 pub fn texts_mean_one_value()
     ensures strings { (s t bytes : List ℕ) → IsString s bytes → IsString t bytes → s ≡ t }
+    ensures utf8 { (text bytes : List ℕ) → IsString text bytes → IsUtf8 text }
     ensures numbers { (y z : ℤ) (text : List ℕ) → DenotesInteger y text → DenotesInteger z text → y ≡ z }
 {}
 
