@@ -1,0 +1,4 @@
+pub mod JsonStrings
+pub mod JsonNumbers
+pub mod StringOutput
+pub mod AppendedBytes

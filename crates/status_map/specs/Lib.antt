@@ -1,0 +1,3 @@
+pub mod StatusTables
+pub mod ErrorBody
+pub mod GrpcMessage
