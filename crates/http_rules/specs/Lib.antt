@@ -1,0 +1,4 @@
+pub mod Template
+pub mod TemplatePrefix
+pub mod TemplateMatch
+pub mod PercentDecoding

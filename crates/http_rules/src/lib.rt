@@ -1,0 +1,12 @@
+//! Path templates of HTTP rules (google/api/http.proto, path template syntax).
+//!
+//! `parse_template` reads a template, `put_template` prints one, `same_flat` tells whether two
+//! templates are one route, and `capture` decodes what a variable takes of a path. Which paths a
+//! template fits is defined here (`Matches`) and searched in `path_router`. Begin with `Template`.
+#![tactic(auto)]
+
+mod fault;
+mod template;
+
+pub use fault::TemplateFault;
+pub use template::{Binding, Body, Segment, Template, Variable};
