@@ -1,1 +1,3 @@
+pub mod DecodingLemmas
+pub mod RangeLemmas
 pub mod StandardFacts

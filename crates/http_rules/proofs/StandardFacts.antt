@@ -1,13 +1,12 @@
 -- Worked examples of the definitions, computed.
-use Rattle.std.specs.Prelude.{◌≡◌, ◌≢◌, ℕ, ◌<◌, ◌^◌, List, [], ◌∷◌, codes, Option, Some, None, length, refl}
+use Rattle.std.specs.Prelude.{◌≡◌, ℕ, List, [], ◌∷◌, codes, Option, Some, None, refl}
 use Rattle.std.proofs.Common.{lit<}
-use Rattle.std.specs.List.{AllByRecursion}
 use Rattle.percent_encoding.specs.Percent.{percent_decode}
 use Rattle.http_rules.specs.declared.template.Segment.{Segment}
 use Rattle.http_rules.specs.declared.template.Segment.TheVariants.{Literal, One, Rest}
 use Rattle.http_rules.specs.declared.template.Variable.{Variable}
 use Rattle.http_rules.specs.declared.template.Template.{Template}
-use Rattle.http_rules.specs.Template.{segment, variable, variable_of, IsTemplateText}
+use Rattle.http_rules.specs.Template.{segment, variable_of, IsTemplateText}
 use Rattle.http_rules.specs.TemplateMatch.{Matches}
 use Rattle.http_rules.specs.PercentDecoding.{decode_but_slashes, captured}
 

@@ -3,7 +3,7 @@
 --   Segment = "*" | "**" | LITERAL | Variable ; Variable = "{" FieldPath [ "=" Segments ] "}" ;
 --   FieldPath = IDENT { "." IDENT } ;         Verb = ":" LITERAL ;
 -- Texts are lists of bytes.
-use Rattle.std.specs.Prelude.{◌≡◌, ◌≤◌, ℕ, ◌+◌, ◌==◌, nat_le, Bool, ◌&&◌, ◌||◌, IsTrue, List, [], ◌∷◌, ◌++◌, length, map, codes, Option, Some, None}
+use Rattle.std.specs.Prelude.{◌≡◌, ◌<◌, ◌≤◌, ℕ, ◌+◌, ◌==◌, nat_le, Bool, ◌&&◌, ◌||◌, IsTrue, List, [], ◌∷◌, ◌++◌, length, map, codes, Option, Some, None}
 use Rattle.std.specs.List.{AllByRecursion, flat_map, list_any}
 use Rattle.http_rules.specs.declared.template.Segment.{Segment}
 use Rattle.http_rules.specs.declared.template.Segment.TheVariants.{Literal, One, Rest}
@@ -158,3 +158,12 @@ pub record IsTemplate (template : Template) : Type 0 where
   pub text : List ℕ
   pub means : IsTemplateText text template
   pub within : IsWithinLimits template
+
+-- two templates are one route: their segments and verbs are equal, whatever their variables are
+abbrev pub IsSameFlat : Template → Template → Type 0
+IsSameFlat a b = (a.segments ≡ b.segments) × (a.verb ≡ b.verb)
+
+-- the ranges of the variables are not empty, one after another, and between these bounds
+abbrev pub AreRanges : ℕ → List Variable → ℕ → Type 0
+AreRanges low [] high = low ≤ high
+AreRanges low (v ∷ vs) high = (low ≤ v.from) × (v.from < v.to) × AreRanges v.to vs high

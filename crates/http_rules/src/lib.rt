@@ -6,7 +6,11 @@
 #![tactic(auto)]
 
 mod fault;
+mod order;
 mod template;
+mod unescape;
 
 pub use fault::TemplateFault;
+pub use order::same_flat;
 pub use template::{Binding, Body, Segment, Template, Variable};
+pub use unescape::capture;
