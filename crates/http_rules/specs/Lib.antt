@@ -2,3 +2,4 @@ pub mod Template
 pub mod TemplatePrefix
 pub mod TemplateMatch
 pub mod PercentDecoding
+pub mod TemplateMachine

@@ -7,6 +7,8 @@
 
 mod fault;
 mod order;
+mod parts;
+mod place;
 mod template;
 mod unescape;
 
