@@ -1,5 +1,7 @@
+pub mod BuildLemmas
 pub mod DecodingLemmas
 pub mod MachineReads
 pub mod MachineRuns
+pub mod PrefixLemmas
 pub mod RangeLemmas
 pub mod StandardFacts

@@ -3,3 +3,4 @@ pub mod TemplatePrefix
 pub mod TemplateMatch
 pub mod PercentDecoding
 pub mod TemplateMachine
+pub mod TemplateLimits

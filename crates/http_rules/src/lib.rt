@@ -7,6 +7,7 @@
 
 mod fault;
 mod order;
+mod parser;
 mod parts;
 mod place;
 mod template;
