@@ -1,8 +1,8 @@
 -- What building a template keeps: the bytes left complete the parts to what the text means.
-use Rattle.std.proofs.Common.{◌≡◌, ◌<◌, ◌≤◌, ℕ, suc, ◌+◌, Bool, true, false, eqb, List, [], ◌∷◌, ◌++◌, length, drop, get_or, Option, Some, None, ◌⊎◌, inl, inr, ⊎_elim, refl, sym, ap, ◌∙◌, subst, arith, length-append, drop-cons}
+use Rattle.std.proofs.Common.{◌≡◌, ◌<◌, ◌≤◌, ℕ, suc, ◌+◌, Bool, true, false, List, [], ◌∷◌, length, drop, get_or, Option, Some, None, refl, sym, ap, ◌∙◌, subst, arith, length-append, drop-cons}
 use Rattle.std.proofs.lemmas.List.{drop_all}
 use Rattle.std.proofs.lemmas.Bool.Decides.{nat_tests}
-use Rattle.std.specs.Prelude.{⊤, option_map, IfSome, IfOk, Result, Ok, Err}
+use Rattle.std.specs.Prelude.{option_map, IfSome, IfOk, Result, Ok, Err}
 use Rattle.http_rules.specs.declared.template.Template.{Template}
 use Rattle.http_rules.specs.declared.fault.TemplateFault.{TemplateFault}
 use Rattle.http_rules.specs.declared.fault.TemplateFault.TheVariants as faults
@@ -16,7 +16,7 @@ use Rattle.http_rules.specs.declared.place.Act.TheVariants as act
 use Rattle.http_rules.specs.declared.parts.Parts.{Parts}
 use Rattle.http_rules.specs.Template.{is_literal_byte, IsTemplateText, IsWithinLimits}
 use Rattle.http_rules.specs.TemplatePrefix.{IsSomeTemplate}
-use Rattle.http_rules.specs.TemplateMachine.{class_of, turn, after, is_final, did, kept, finish, run, read_template}
+use Rattle.http_rules.specs.TemplateMachine.{class_of, turn, is_final, did, kept, finish, run, read_template}
 use Rattle.http_rules.specs.TemplateLimits.{AreFew, KeepsAscii, RefusesOver}
 use Rattle.http_rules.proofs.MachineReads.{ClassSays, class_says, read_is_template}
 use Rattle.http_rules.proofs.MachineRuns.{template_is_read}

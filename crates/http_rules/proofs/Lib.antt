@@ -1,3 +1,4 @@
+pub mod AnswerLemmas
 pub mod BuildLemmas
 pub mod DecodingLemmas
 pub mod MachineReads

@@ -1,6 +1,6 @@
 -- What the machine reads is in the grammar: at each place, what it reads from there on completes the
 -- part that has begun, and the parts that follow.
-use Rattle.std.proofs.Common.{◌≡◌, ◌<◌, ◌≤◌, ℕ, ◌+◌, Bool, true, false, cond, eqb, List, [], ◌∷◌, ◌++◌, length, map, Option, Some, None, refl, sym, ap, ◌∙◌, subst, arith, append_assoc, length-append, eqb-true}
+use Rattle.std.proofs.Common.{◌≡◌, ℕ, ◌+◌, Bool, true, false, cond, eqb, List, [], ◌∷◌, ◌++◌, length, map, Option, Some, None, refl, sym, ap, ◌∙◌, subst, arith, append_assoc, length-append, eqb-true}
 use Rattle.std.proofs.lemmas.List.{append-nil}
 use Rattle.std.specs.Prelude.{⊤, ◌||◌, option_map}
 use Rattle.std.specs.List.{AllByRecursion, flat_map}
@@ -12,16 +12,13 @@ use Rattle.http_rules.specs.declared.place.Kind.{Kind}
 use Rattle.http_rules.specs.declared.place.Kind.TheVariants.{Letter, Digit, Dot, Equals, Mark}
 use Rattle.http_rules.specs.declared.place.Class.{Class}
 use Rattle.http_rules.specs.declared.place.Class.TheVariants as class
-use Rattle.http_rules.specs.declared.place.Level.{Level}
 use Rattle.http_rules.specs.declared.place.Level.TheVariants as level
 use Rattle.http_rules.specs.declared.place.Place.{Place}
 use Rattle.http_rules.specs.declared.place.Place.TheVariants as place
-use Rattle.http_rules.specs.declared.place.Shape.TheVariants as shape
 use Rattle.http_rules.specs.declared.place.Act.{Act}
-use Rattle.http_rules.specs.declared.place.Act.TheVariants as act
 use Rattle.http_rules.specs.declared.parts.Parts.{Parts}
-use Rattle.http_rules.specs.Template.{is_digit, is_literal_byte, begins_identifier, is_identifier_byte, IsLiteral, IsIdentifier, IsFieldPath, IsSegment, AreSegments, Part, segment, variable, variable_of, IsPart, joined, segment_text, part_text, verb_text, parts_text, part_segments, segments_of, variables_from, MayFollow, IsRestLast, IsVerb, IsTemplateText}
-use Rattle.http_rules.specs.TemplateMachine.{kind_of, sign_of, class_of, ended, turn, after, no_parts, with_segment, with_variable, did, kept, built, finish, run, read_template}
+use Rattle.http_rules.specs.Template.{is_digit, is_literal_byte, begins_identifier, is_identifier_byte, IsLiteral, IsIdentifier, IsFieldPath, IsSegment, AreSegments, Part, segment, variable, variable_of, IsPart, joined, segment_text, part_text, verb_text, parts_text, segments_of, variables_from, MayFollow, IsRestLast, IsVerb, IsTemplateText}
+use Rattle.http_rules.specs.TemplateMachine.{kind_of, class_of, turn, no_parts, did, kept, finish, run, read_template}
 
 -- what a class says of a byte
 
@@ -245,8 +242,8 @@ open_back segs vars path s t is h =
     let inner = joined 47 (map segment_text h.more) in
     let after_it = flat_map (λ p. 47 ∷ part_text p) h.parts in
     let shown : joined 46 path ++ 61 ∷ s ≡ (joined 46 path ++ 61 ∷ (inner ++ 125 ∷ [])) ++ parts_text h.parts t.verb =
-        ap (λ l. joined 46 path ++ 61 ∷ l) (r.1 ∙ sym (append_assoc inner (125 ∷ []) (parts_text h.parts t.verb)))
-        ∙ sym (append_assoc (joined 46 path) (61 ∷ (inner ++ 125 ∷ [])) (parts_text h.parts t.verb)) in
+    ap (λ l. joined 46 path ++ 61 ∷ l) (r.1 ∙ sym (append_assoc inner (125 ∷ []) (parts_text h.parts t.verb)))
+    ∙ sym (append_assoc (joined 46 path) (61 ∷ (inner ++ 125 ∷ [])) (parts_text h.parts t.verb)) in
     record {
       parts = variable_of path h.more ∷ h.parts;
       each = ((is, r.0), h.each);
@@ -262,7 +259,7 @@ bare_back : (segs : List Segment) (vars : List Variable) (path : List (List ℕ)
 bare_back segs vars path s t is h =
     let after_it = flat_map (λ p. 47 ∷ part_text p) h.parts in
     let shown : joined 46 path ++ 125 ∷ s ≡ (joined 46 path ++ 125 ∷ []) ++ parts_text h.parts t.verb =
-        ap (λ l. joined 46 path ++ 125 ∷ l) h.text ∙ sym (append_assoc (joined 46 path) (125 ∷ []) (parts_text h.parts t.verb)) in
+    ap (λ l. joined 46 path ++ 125 ∷ l) h.text ∙ sym (append_assoc (joined 46 path) (125 ∷ []) (parts_text h.parts t.verb)) in
     record {
       parts = variable path ∷ h.parts;
       each = (is, h.each);
@@ -393,13 +390,17 @@ step place.Path m b (class.Literal Digit) e v =
 step place.Path m b (class.Literal Dot) e v =
     ((refl, all_push _ m.path m.word v.1 v.0), λ s t h. on (λ n. At m (47 ∷ 123 ∷ (dotted m.path ++ (m.word ++ n ∷ s))) t) b 46 e.1 (subst (λ l. At m (47 ∷ 123 ∷ l) t) (dotted_push m.path m.word s) h))
 step place.Path m b (class.Literal Equals) e v =
-    let is = field_path_push m.path m.word v.1 v.0 in
-    ((refl, is), λ s t h. on (λ n. At m (47 ∷ 123 ∷ (dotted m.path ++ (m.word ++ n ∷ s))) t) b 61 e.1
-        (subst (λ l. At m (47 ∷ 123 ∷ l) t) (joined_push m.path m.word (61 ∷ s)) (open_back m.segments m.variables (m.path ++ m.word ∷ []) s t is h)))
+    let is = field_path_push m.path m.word v.1 v.0 in (
+      (refl, is),
+      λ s t h. on (λ n. At m (47 ∷ 123 ∷ (dotted m.path ++ (m.word ++ n ∷ s))) t) b 61 e.1
+          (subst (λ l. At m (47 ∷ 123 ∷ l) t) (joined_push m.path m.word (61 ∷ s)) (open_back m.segments m.variables (m.path ++ m.word ∷ []) s t is h)),
+    )
 step place.Path m b class.Close e v =
-    let is = field_path_push m.path m.word v.1 v.0 in
-    ((refl, refl), λ s t h. on (λ n. At m (47 ∷ 123 ∷ (dotted m.path ++ (m.word ++ n ∷ s))) t) b 125 e
-        (subst (λ l. At m (47 ∷ 123 ∷ l) t) (joined_push m.path m.word (125 ∷ s)) (bare_back m.segments m.variables (m.path ++ m.word ∷ []) s t is h)))
+    let is = field_path_push m.path m.word v.1 v.0 in (
+      (refl, refl),
+      λ s t h. on (λ n. At m (47 ∷ 123 ∷ (dotted m.path ++ (m.word ++ n ∷ s))) t) b 125 e
+          (subst (λ l. At m (47 ∷ 123 ∷ l) t) (joined_push m.path m.word (125 ∷ s)) (bare_back m.segments m.variables (m.path ++ m.word ∷ []) s t is h)),
+    )
 step place.Path m b c e v = tt
 step place.Closed m b class.Slash e v = (v, λ s t h. on (λ n. At m (n ∷ s) t) b 47 e h)
 step place.Closed m b class.Colon e v = (v.0, λ s t h. on (λ n. At m (n ∷ s) t) b 58 e (before Rest One _ _ _ _ (rest_before One) h))

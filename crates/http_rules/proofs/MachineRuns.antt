@@ -1,13 +1,12 @@
 -- What is in the grammar is read by the machine: a template is run through it, part by part.
-use Rattle.std.proofs.Common.{◌≡◌, ◌<◌, ◌≤◌, ℕ, ◌+◌, Bool, true, false, cond, eqb, List, [], ◌∷◌, ◌++◌, length, map, Option, Some, None, ◌⊎◌, inl, inr, ⊎_elim, refl, sym, ap, ◌∙◌, subst, arith, append_assoc, length-append, eqb-true}
+use Rattle.std.proofs.Common.{◌≡◌, ℕ, ◌+◌, Bool, true, false, cond, eqb, List, [], ◌∷◌, ◌++◌, length, map, Option, Some, None, ◌⊎◌, inl, inr, ⊎_elim, refl, sym, ap, ◌∙◌, subst, append_assoc, length-append, eqb-true}
 use Rattle.std.proofs.lemmas.List.{append-nil}
-use Rattle.std.specs.Prelude.{⊤, ◌||◌, option_map}
+use Rattle.std.specs.Prelude.{◌||◌, option_map}
 use Rattle.std.specs.List.{AllByRecursion, flat_map, list_any}
 use Rattle.http_rules.specs.declared.template.Segment.{Segment}
 use Rattle.http_rules.specs.declared.template.Segment.TheVariants.{Literal, One, Rest}
 use Rattle.http_rules.specs.declared.template.Variable.{Variable}
 use Rattle.http_rules.specs.declared.template.Template.{Template}
-use Rattle.http_rules.specs.declared.place.Kind.{Kind}
 use Rattle.http_rules.specs.declared.place.Kind.TheVariants.{Letter, Digit, Dot, Equals, Mark}
 use Rattle.http_rules.specs.declared.place.Class.{Class}
 use Rattle.http_rules.specs.declared.place.Class.TheVariants as class
@@ -16,8 +15,8 @@ use Rattle.http_rules.specs.declared.place.Level.TheVariants.{Outer, Inner}
 use Rattle.http_rules.specs.declared.place.Place.{Place}
 use Rattle.http_rules.specs.declared.place.Place.TheVariants as place
 use Rattle.http_rules.specs.declared.parts.Parts.{Parts}
-use Rattle.http_rules.specs.Template.{is_letter, is_digit, literal_marks, is_literal_byte, begins_identifier, is_identifier_byte, IsLiteral, IsIdentifier, IsFieldPath, IsSegment, AreSegments, Part, segment, variable, variable_of, IsPart, joined, segment_text, part_text, verb_text, parts_text, part_segments, segments_of, variables_from, MayFollow, IsRestLast, IsVerb, IsTemplateText}
-use Rattle.http_rules.specs.TemplateMachine.{kind_of, sign_of, class_of, turn, parts_of, no_parts, kept, finish, run, read_template}
+use Rattle.http_rules.specs.Template.{is_letter, is_digit, literal_marks, is_literal_byte, begins_identifier, is_identifier_byte, IsLiteral, IsIdentifier, IsSegment, Part, segment, variable, variable_of, IsPart, joined, segment_text, part_text, verb_text, parts_text, part_segments, segments_of, variables_from, MayFollow, IsRestLast, IsVerb, IsTemplateText}
+use Rattle.http_rules.specs.TemplateMachine.{kind_of, sign_of, class_of, turn, parts_of, kept, finish, run, read_template}
 
 -- the class of a byte
 
@@ -247,7 +246,7 @@ part_run (variable (n ∷ ns)) segs vars from h r =
     let p = path_run n ns segs vars [] from h.0 h.1 in
     let one : length (segs ++ One ∷ []) ≡ length segs + 1 = length-append segs (One ∷ []) in
     let vars_are : vars ++ taking (p.path ++ p.word ∷ []) (length segs) (length (segs ++ One ∷ [])) ∷ [] ≡ vars ++ taking (n ∷ ns) (length segs) (length segs + 1) ∷ [] =
-        ap (λ x. vars ++ taking x (length segs) (length (segs ++ One ∷ [])) ∷ []) p.whole ∙ ap (λ k. vars ++ taking (n ∷ ns) (length segs) k ∷ []) one in
+    ap (λ x. vars ++ taking x (length segs) (length (segs ++ One ∷ [])) ∷ []) p.whole ∙ ap (λ k. vars ++ taking (n ∷ ns) (length segs) k ∷ []) one in
     record {
       at = place.Closed;
       parts = parts_of (segs ++ One ∷ []) (vars ++ taking (n ∷ ns) (length segs) (length segs + 1) ∷ []) [] [] (length segs);
@@ -335,9 +334,9 @@ all_run q (u ∷ us) verb segs vars from each rest is =
     let vars' = vars ++ variables_from (length segs) (q ∷ []) in
     let count : length (segs ++ part_segments q) ≡ length segs + length (part_segments q) = length-append segs (part_segments q) in
     let vars_are : vars' ++ variables_from (length segs') (u ∷ us) ≡ vars ++ variables_from (length segs) (q ∷ u ∷ us) =
-        ap (λ n. vars' ++ variables_from n (u ∷ us)) count
-        ∙ append_assoc vars (variables_from (length segs) (q ∷ [])) (variables_from (length segs + length (part_segments q)) (u ∷ us))
-        ∙ ap (λ z. vars ++ z) (sym (variables_then (length segs) q (u ∷ us))) in
+    ap (λ n. vars' ++ variables_from n (u ∷ us)) count
+    ∙ append_assoc vars (variables_from (length segs) (q ∷ [])) (variables_from (length segs + length (part_segments q)) (u ∷ us))
+    ∙ ap (λ z. vars ++ z) (sym (variables_then (length segs) q (u ∷ us))) in
     r.runs (parts_text (u ∷ us) verb)
     ∙ ap (λ z. run (Some r.at) r.parts (47 ∷ z)) (append_assoc (part_text u) (flat_map (λ p. 47 ∷ part_text p) us) (verb_text verb))
     ∙ r.reached.slash may.0 may.1 may.2 (part_text u ++ parts_text us verb)

@@ -1,21 +1,18 @@
 -- What the place of the machine says of the bytes so far.
-use Rattle.std.proofs.Common.{◌≡◌, ◌<◌, ◌≤◌, ℕ, ◌+◌, ◌-◌, Bool, true, false, List, [], ◌∷◌, ◌++◌, length, take, drop, get_or, Option, Some, None, ◌⊎◌, inl, inr, refl, sym, ap, ◌∙◌, subst, arith, append_assoc, length-append}
+use Rattle.std.proofs.Common.{◌≡◌, ◌<◌, ◌≤◌, ℕ, ◌+◌, true, false, List, [], ◌∷◌, ◌++◌, length, take, drop, get_or, Option, Some, None, ◌⊎◌, inl, inr, refl, sym, ap, ◌∙◌, subst, arith, append_assoc, length-append}
 use Rattle.std.proofs.lemmas.List.{append-nil, take-take, take-append-drop, take_all, take_more}
 use Rattle.std.proofs.lemmas.Bool.{cases_lt}
-use Rattle.std.specs.Prelude.{⊤, option_map}
+use Rattle.std.specs.Prelude.{option_map}
 use Rattle.http_rules.specs.declared.template.Template.{Template}
-use Rattle.http_rules.specs.declared.place.Class.{Class}
-use Rattle.http_rules.specs.declared.place.Class.TheVariants as class
 use Rattle.http_rules.specs.declared.place.Level.TheVariants as level
 use Rattle.http_rules.specs.declared.place.Place.{Place}
 use Rattle.http_rules.specs.declared.place.Place.TheVariants as place
 use Rattle.http_rules.specs.declared.place.Act.{Act}
 use Rattle.http_rules.specs.declared.place.Act.TheVariants as act
 use Rattle.http_rules.specs.declared.parts.Parts.{Parts}
-use Rattle.http_rules.specs.Template.{IsTemplateText, IsWithinLimits}
+use Rattle.http_rules.specs.Template.{IsTemplateText}
 use Rattle.http_rules.specs.TemplatePrefix.{BeginsTemplate, IsSomeTemplate, IsSyntaxFault}
 use Rattle.http_rules.specs.TemplateMachine.{class_of, turn, is_final, after, reach, no_parts, did, kept, finish, run, read_template}
-use Rattle.http_rules.specs.TemplateLimits.{AreFew}
 use Rattle.http_rules.proofs.MachineReads.{read_is_template}
 use Rattle.http_rules.proofs.MachineRuns.{template_is_read}
 

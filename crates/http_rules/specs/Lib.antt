@@ -2,5 +2,6 @@ pub mod Template
 pub mod TemplatePrefix
 pub mod TemplateMatch
 pub mod PercentDecoding
+pub mod TemplateFaults
 pub mod TemplateMachine
 pub mod TemplateLimits

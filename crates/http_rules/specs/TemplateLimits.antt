@@ -1,6 +1,5 @@
 -- The limits of a template that is parsed, and what is answered past them.
-use Rattle.std.specs.Prelude.{◌≡◌, ◌≤◌, ◌<◌, ℕ, length, Result, Ok, Err, ⊤}
-use Rattle.http_rules.specs.declared.template.Template.{Template}
+use Rattle.std.specs.Prelude.{◌≤◌, ◌<◌, ℕ, length, Result, Ok, Err, ⊤}
 use Rattle.http_rules.specs.declared.fault.TemplateFault.{TemplateFault}
 use Rattle.http_rules.specs.declared.fault.TemplateFault.TheVariants as faults
 use Rattle.http_rules.specs.declared.place.Act.{Act}

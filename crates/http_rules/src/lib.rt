@@ -15,5 +15,6 @@ mod unescape;
 
 pub use fault::TemplateFault;
 pub use order::same_flat;
+pub use parser::parse_template;
 pub use template::{Binding, Body, Segment, Template, Variable};
 pub use unescape::capture;

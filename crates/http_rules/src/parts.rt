@@ -134,11 +134,7 @@ impl Parts {
     }
 
     /// The template, where the text ends.
-    pub fn finish(
-        mut self,
-        alloc: Global,
-        place: Place,
-    ) -> Result<Template, TemplateFault>
+    pub fn finish(mut self, alloc: Global, place: Place) -> Result<Template, TemplateFault>
         requires place { IsTrue (is_final place) }
         requires few { AreFew self }
         ensures ok { IfOk result (λ t. finish place self ≡ Some t) }

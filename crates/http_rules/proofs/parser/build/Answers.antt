@@ -1,8 +1,8 @@
-use Rattle.std.proofs.Common.{◌≡◌, ◌<◌, ◌≤◌, length, get_or, Some, None, Ok, Err, true, false, arith, sym, ◌∙◌}
+use Rattle.std.proofs.Common.{◌≡◌, ◌≤◌, length, get_or, Some, None, Err, arith}
 use Rattle.std.proofs.lemmas.Result.{err_from_is_err_and}
 use Rattle.http_rules.specs.declared.template.Template.{Template}
-use Rattle.http_rules.specs.TemplateMachine.{turn, class_of, is_final}
-use Rattle.http_rules.proofs.BuildLemmas.{keeps_ascii, build_step, build_goes_on, build_over, build_end, end_is_final, end_means, end_over, refuses_weaker, ok_weaker}
+use Rattle.http_rules.specs.TemplateMachine.{turn, class_of}
+use Rattle.http_rules.proofs.BuildLemmas.{keeps_ascii, build_goes_on, build_over, build_end, end_is_final, end_means, end_over, refuses_weaker, ok_weaker}
 use Rattle.http_rules.proofs.parser.build.Goals as goal
 
 pub take-requires-clause-ascii : goal.take-requires-clause-ascii
@@ -15,8 +15,8 @@ returns-in_err-take-in-Some-clause-over c =
     let leads : turn c.loop-byte.place (class_of (get_or c.args.text.now c.loop-byte.byte-index 0)) ≡ Some (c.in-Some.next, c.in-Some.act) = cc (c.in-Some.is, c.turn.ensures, c.class_of.ensures) in
     let p = err_from_is_err_and c.from_residual.result c.from_residual.ensures.1 in
     rw (p.1, p.2) (refuses_weaker {T = Template} (Err c.in_err-take-in-Some.field-0.0) _ _
-        (build_over c.args.text.now c.loop-byte.byte-index c.loop-byte.place c.in-Some.next c.in-Some.act c.loop-byte.parts c.loop-byte-test.true c.loop-byte.invariant.0 leads c.requires)
-        c.in_err-take-in-Some.ensures.over)
+    (build_over c.args.text.now c.loop-byte.byte-index c.loop-byte.place c.in-Some.next c.in-Some.act c.loop-byte.parts c.loop-byte-test.true c.loop-byte.invariant.0 leads c.requires)
+    c.in_err-take-in-Some.ensures.over)
 
 pub unreachable-requires : goal.unreachable-requires
 unreachable-requires c =

@@ -1,4 +1,4 @@
-use Rattle.std.proofs.Common.{◌≡◌, ◌<◌, ◌≤◌, length, get_or, Some, None, true, false, arith, sym, ◌∙◌}
+use Rattle.std.proofs.Common.{◌≡◌, ◌≤◌, length, get_or, Some, None, true, false, arith}
 use Rattle.http_rules.specs.TemplateMachine.{turn, class_of, is_final}
 use Rattle.http_rules.proofs.PrefixLemmas.{next_nowhere, next_where, ends_whole, ends_early}
 use Rattle.http_rules.proofs.parser.syntax_fault.Goals as goal
