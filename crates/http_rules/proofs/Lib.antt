@@ -3,6 +3,8 @@ pub mod BuildLemmas
 pub mod DecodingLemmas
 pub mod MachineReads
 pub mod MachineRuns
+pub mod MatchLemmas
 pub mod PrefixLemmas
+pub mod PrintLemmas
 pub mod RangeLemmas
 pub mod StandardFacts

@@ -226,7 +226,7 @@ abbrev first_byte : List ℕ → ℕ
 first_byte [] = 0
 first_byte (b ∷ s) = b
 
-slashed_texts : (zs : List Segment) → flat_map (λ z. 47 ∷ segment_text z) zs ≡ flat_map (λ z. 47 ∷ z) (map segment_text zs)
+pub slashed_texts : (zs : List Segment) → flat_map (λ z. 47 ∷ segment_text z) zs ≡ flat_map (λ z. 47 ∷ z) (map segment_text zs)
 slashed_texts [] = refl
 slashed_texts (z ∷ zs) = ap (λ l. 47 ∷ (segment_text z ++ l)) (slashed_texts zs)
 

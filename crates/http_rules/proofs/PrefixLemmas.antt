@@ -191,3 +191,11 @@ did_grows act.OpenRange b m = (omega arith, omega arith)
 did_grows act.CloseBare b m = (simp length-append (omega arith), simp length-append (omega arith))
 did_grows (act.EndSegment x) b m = (simp length-append (omega arith), omega arith)
 did_grows (act.CloseRange x) b m = (simp length-append (omega arith), simp length-append (omega arith))
+
+-- a fault ends the longest prefix that begins a template
+pub longest_prefix : (s : List ℕ) (offset n : ℕ) → IsSyntaxFault s offset → n ≤ length s → BeginsTemplate (take n s) → n ≤ offset
+longest_prefix s offset n f h b = by_order (cases_lt offset n)
+  where
+    by_order : (offset < n) ⊎ (n ≤ offset) → n ≤ offset
+    by_order (inl lt) = absurd (f.stops (omega (arith, lt, h)) (begins_shorter (offset + 1) n s (omega (arith, lt)) b))
+    by_order (inr le) = le

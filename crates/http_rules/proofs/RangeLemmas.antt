@@ -14,7 +14,7 @@ some_segments : (ss : List Segment) → AreSegments ss → 0 < length ss
 some_segments [] h = absurd h
 some_segments (s ∷ ss) h = omega arith
 
-above : (low : ℕ) (vs : List Variable) (high : ℕ) → AreRanges low vs high → low ≤ high
+pub above : (low : ℕ) (vs : List Variable) (high : ℕ) → AreRanges low vs high → low ≤ high
 above low [] high r = r
 above low (v ∷ vs) high r = let h : v.to ≤ high = above v.to vs high r.2 in omega (arith, h, r.0, r.1)
 

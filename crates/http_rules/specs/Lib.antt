@@ -1,5 +1,6 @@
 pub mod Template
 pub mod TemplatePrefix
+pub mod TemplateText
 pub mod TemplateMatch
 pub mod PercentDecoding
 pub mod TemplateFaults

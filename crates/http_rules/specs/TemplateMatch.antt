@@ -62,3 +62,10 @@ pub record Matches (template : Template) (path : List ℕ) (spans : List (ℕ ×
 -- the template fits the path
 abbrev pub Fits : Template → List ℕ → Type 0
 Fits template path = (spans : List (ℕ × ℕ)) × Matches template path spans
+
+-- no segment is a wildcard
+abbrev pub AreLiterals : List Segment → Type 0
+AreLiterals [] = Unit {0}
+AreLiterals (Literal l ∷ ss) = AreLiterals ss
+AreLiterals (One ∷ ss) = ⊥
+AreLiterals (Rest ∷ ss) = ⊥

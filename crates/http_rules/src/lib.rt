@@ -6,15 +6,22 @@
 #![tactic(auto)]
 
 mod fault;
+mod laws;
 mod order;
 mod parser;
 mod parts;
 mod place;
+mod printer;
 mod template;
 mod unescape;
 
 pub use fault::TemplateFault;
+pub use laws::{
+    fault_ends_longest_prefix, literal_takes_its_bytes, literals_fit_their_text, one_meaning,
+    printed_means_the_same, ranges_are_in_order,
+};
 pub use order::same_flat;
 pub use parser::parse_template;
+pub use printer::put_template;
 pub use template::{Binding, Body, Segment, Template, Variable};
 pub use unescape::capture;
