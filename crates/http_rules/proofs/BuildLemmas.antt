@@ -18,7 +18,8 @@ use Rattle.http_rules.specs.Template.{is_literal_byte, IsTemplateText, IsWithinL
 use Rattle.http_rules.specs.TemplatePrefix.{IsSomeTemplate}
 use Rattle.http_rules.specs.TemplateMachine.{class_of, turn, is_final, did, kept, finish, run, read_template}
 use Rattle.http_rules.specs.TemplateLimits.{AreFew, KeepsAscii, RefusesOver}
-use Rattle.http_rules.proofs.MachineReads.{ClassSays, class_says, read_is_template}
+use Rattle.http_rules.proofs.PartLemmas.{ClassSays, class_says}
+use Rattle.http_rules.proofs.MachineReads.{read_is_template}
 use Rattle.http_rules.proofs.MachineRuns.{template_is_read}
 use Rattle.http_rules.proofs.PrefixLemmas.{did_grows, finish_none}
 

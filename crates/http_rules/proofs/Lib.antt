@@ -1,6 +1,7 @@
 pub mod AnswerLemmas
 pub mod BuildLemmas
 pub mod DecodingLemmas
+pub mod PartLemmas
 pub mod MachineReads
 pub mod MachineRuns
 pub mod MatchLemmas

@@ -10,7 +10,7 @@ use Rattle.http_rules.specs.declared.template.Template.{Template}
 use Rattle.http_rules.specs.Template.{Part, segment, variable, variable_of, IsPart, segments_of, variables_from, joined, segment_text, part_text, parts_text, IsRestLast, IsTemplateText, IsTemplate, AreRanges}
 use Rattle.http_rules.specs.TemplateText.{printed_parts, template_text, slashed_parts, slashed_segments, text_through}
 use Rattle.http_rules.proofs.RangeLemmas.{ranges_from, above}
-use Rattle.http_rules.proofs.MachineReads.{slashed_texts}
+use Rattle.http_rules.proofs.PartLemmas.{slashed_texts}
 
 -- a part with its segments spelled out
 abbrev spelled_out : Part → Part

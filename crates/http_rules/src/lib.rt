@@ -13,6 +13,8 @@ mod parts;
 mod place;
 mod printer;
 mod template;
+#[cfg(test)]
+mod tests;
 mod unescape;
 
 pub use fault::TemplateFault;
