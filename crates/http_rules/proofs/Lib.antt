@@ -9,3 +9,4 @@ pub mod PrefixLemmas
 pub mod PrintLemmas
 pub mod RangeLemmas
 pub mod StandardFacts
+pub mod SpanLemmas

@@ -1,5 +1,5 @@
 -- Which paths a template fits, and what each variable takes (google/api/http.proto, path template syntax).
-use Rattle.std.specs.Prelude.{◌≡◌, ◌≢◌, ◌<◌, ◌^◌, ℕ, ◌+◌, ◌-◌, List, [], ◌∷◌, ◌++◌, length, map, take, drop, IsSome}
+use Rattle.std.specs.Prelude.{◌≡◌, ◌≢◌, ◌<◌, ◌≤◌, ◌^◌, ℕ, ◌+◌, ◌-◌, List, [], ◌∷◌, ◌++◌, length, map, take, drop, IsSome}
 use Rattle.std.specs.List.{AllByRecursion, flat_map}
 use Rattle.http_rules.specs.declared.template.Segment.{Segment}
 use Rattle.http_rules.specs.declared.template.Segment.TheVariants.{Literal, One, Rest}
@@ -69,3 +69,8 @@ AreLiterals [] = Unit {0}
 AreLiterals (Literal l ∷ ss) = AreLiterals ss
 AreLiterals (One ∷ ss) = ⊥
 AreLiterals (Rest ∷ ss) = ⊥
+
+-- one span for each variable, inside the path
+pub record AreSpansOf (template : Template) (path : List ℕ) (spans : List (ℕ × ℕ)) : Type 0 where
+  pub each : length spans ≡ length template.variables
+  pub inside : AllByRecursion (λ span. (span.0 ≤ span.1) × (span.1 ≤ length path)) spans

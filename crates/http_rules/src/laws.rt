@@ -5,7 +5,7 @@ ghost use Rattle.http_rules.specs.declared.template.Segment.TheVariants.{Literal
 ghost use Rattle.http_rules.specs.Template.{IsTemplateText, IsTemplate, AreRanges, verb_text};
 ghost use Rattle.http_rules.specs.TemplatePrefix.{BeginsTemplate, IsSyntaxFault};
 ghost use Rattle.http_rules.specs.TemplateText.{template_text, slashed_segments};
-ghost use Rattle.http_rules.specs.TemplateMatch.{IsPath, AreLiterals, Matches, Fits};
+ghost use Rattle.http_rules.specs.TemplateMatch.{IsPath, AreLiterals, Matches, AreSpansOf, Fits};
 
 /// A text means one template at most.
 pub fn one_meaning()
@@ -38,3 +38,15 @@ pub fn literals_fit_their_text()
     ensures { (t : Template) (path : List ℕ) → t.segments ≢ [] → AreLiterals t.segments → IsPath path
         → Fits t path ↔ (path ≡ slashed_segments t.segments ++ verb_text t.verb) }
 {}
+
+/// A template fits a path in one way: with one list of spans.
+pub fn fits_in_one_way()
+    ensures { (t : Template) (path : List ℕ) (a b : List (ℕ × ℕ)) → IsTemplate t → Matches t path a → Matches t path b → a ≡ b }
+{
+}
+
+/// The spans of a template that fits a path are one for each variable, and lie inside the path.
+pub fn spans_lie_inside()
+    ensures { (t : Template) (path : List ℕ) (spans : List (ℕ × ℕ)) → Matches t path spans → AreSpansOf t path spans }
+{
+}

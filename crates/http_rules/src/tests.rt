@@ -223,6 +223,8 @@ fn routes_are_compared_and_captures_decoded(rt: HostRuntime) -> Result<(), Templ
     printed_means_the_same();
     ranges_are_in_order();
     fault_ends_longest_prefix();
+    fits_in_one_way();
+    spans_lie_inside();
     literal_takes_its_bytes();
     literals_fit_their_text();
     Ok(())
