@@ -1,0 +1,12 @@
+pub mod AnswerLemmas
+pub mod BuildLemmas
+pub mod DecodingLemmas
+pub mod PartLemmas
+pub mod MachineReads
+pub mod MachineRuns
+pub mod MatchLemmas
+pub mod PrefixLemmas
+pub mod PrintLemmas
+pub mod RangeLemmas
+pub mod StandardFacts
+pub mod SpanLemmas

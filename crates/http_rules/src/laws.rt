@@ -1,0 +1,52 @@
+//! Laws of the definitions that the calls' contracts cite. Each is the contract of an empty function.
+ghost use Rattle.std.specs.Prelude.{◌≡◌, ◌≢◌, ◌≤◌, ◌↔◌, ℕ, List, [], ◌∷◌, ◌++◌, length, take, slice_get, Some};
+ghost use Rattle.http_rules.specs.declared.template.Template.{Template};
+ghost use Rattle.http_rules.specs.declared.template.Segment.TheVariants.{Literal};
+ghost use Rattle.http_rules.specs.Template.{IsTemplateText, IsTemplate, AreRanges, verb_text};
+ghost use Rattle.http_rules.specs.TemplatePrefix.{BeginsTemplate, IsSyntaxFault};
+ghost use Rattle.http_rules.specs.TemplateText.{template_text, slashed_segments};
+ghost use Rattle.http_rules.specs.TemplateMatch.{IsPath, AreLiterals, Matches, AreSpansOf, Fits};
+
+/// A text means one template at most.
+pub fn one_meaning()
+    ensures { (text : List ℕ) (t u : Template) → IsTemplateText text t → IsTemplateText text u → t ≡ u }
+{}
+
+/// What is printed of a template means the same template.
+pub fn printed_means_the_same()
+    ensures { (t : Template) → IsTemplate t → IsTemplateText (template_text t) t }
+{}
+
+/// The ranges of a template's variables are not empty, follow one another, and lie within its segments.
+pub fn ranges_are_in_order()
+    ensures { (t : Template) → IsTemplate t → AreRanges 0 t.variables (length t.segments) }
+{}
+
+/// A fault is at the end of the longest prefix that begins a template.
+pub fn fault_ends_longest_prefix()
+    ensures { (text : List ℕ) (offset n : ℕ) → IsSyntaxFault text offset → n ≤ length text → BeginsTemplate (take n text) → n ≤ offset }
+{}
+
+/// A literal takes one segment of the path, equal byte for byte.
+pub fn literal_takes_its_bytes()
+    ensures { (t : Template) (path : List ℕ) (spans : List (ℕ × ℕ)) (m : Matches t path spans) (i : ℕ) (l : List ℕ)
+        → slice_get t.segments i ≡ Some (Literal l) → slice_get m.taken i ≡ Some (l ∷ []) }
+{}
+
+/// A template without wildcards fits its own text and no other path.
+pub fn literals_fit_their_text()
+    ensures { (t : Template) (path : List ℕ) → t.segments ≢ [] → AreLiterals t.segments → IsPath path
+        → Fits t path ↔ (path ≡ slashed_segments t.segments ++ verb_text t.verb) }
+{}
+
+/// A template fits a path in one way: with one list of spans.
+pub fn fits_in_one_way()
+    ensures { (t : Template) (path : List ℕ) (a b : List (ℕ × ℕ)) → IsTemplate t → Matches t path a → Matches t path b → a ≡ b }
+{
+}
+
+/// The spans of a template that fits a path are one for each variable, and lie inside the path.
+pub fn spans_lie_inside()
+    ensures { (t : Template) (path : List ℕ) (spans : List (ℕ × ℕ)) → Matches t path spans → AreSpansOf t path spans }
+{
+}
