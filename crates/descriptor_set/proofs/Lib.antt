@@ -1,0 +1,4 @@
+pub mod LevelLemmas
+pub mod OpenLemmas
+pub mod PatternLemmas
+pub mod RecordLemmas

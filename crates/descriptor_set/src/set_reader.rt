@@ -1,4 +1,9 @@
 //! Files, and the whole set (descriptor.proto).
+ghost use Rattle.std.specs.List.{list_all};
+ghost use Rattle.std.specs.Prelude.{◌≡◌, ◌<◌, ◌≤◌, ◌↔◌, length, map, true, false, IfOk, OnOk};
+ghost use Rattle.descriptor_set.specs.DescriptorFields.{file_info, file_set};
+ghost use Rattle.descriptor_set.specs.ReadOutcome.{Reads};
+ghost use Rattle.descriptor_set.specs.SetForm.{file_form, set_form};
 
 use crate::fault::SetFault;
 use crate::field_numbers::Described;
@@ -18,7 +23,9 @@ pub const MAX_SET_BYTES: usize = 16_777_216;
 const MAX_LEVELS: u32 = 100;
 
 /// FileDescriptorProto.
-fn read_file(alloc: Global, bytes: &[u8], levels: u32) -> Result<FileInfo, SetFault> {
+fn read_file(alloc: Global, bytes: &[u8], levels: u32) -> Result<FileInfo, SetFault>
+    ensures { Reads (file_form levels bytes.now) (file_info levels bytes.now) result }
+{
     if levels == 0 {
         return Err(SetFault::NotBuilt);
     }
@@ -40,7 +47,9 @@ fn read_file(alloc: Global, bytes: &[u8], levels: u32) -> Result<FileInfo, SetFa
 }
 
 /// The files of a set.
-fn read_files(alloc: Global, messages: &[&[u8]], levels: u32) -> Result<List<FileInfo>, SetFault> {
+fn read_files(alloc: Global, messages: &[&[u8]], levels: u32) -> Result<List<FileInfo>, SetFault>
+    ensures { Reads (list_all (file_form levels) (map (λ b. b.now) messages.now)) (map (file_info levels) (map (λ b. b.now) messages.now)) result }
+{
     let mut files = List::new(alloc);
     for bytes in messages {
         files.push(read_file(alloc, bytes, levels)?)?;
@@ -52,7 +61,12 @@ fn read_files(alloc: Global, messages: &[&[u8]], levels: u32) -> Result<List<Fil
 /// most 16,777,216 bytes, its messages are whole records of VARINT and LEN with tags in their shortest
 /// form, no listed singular field stands twice, listed fields have their wire types, strings are
 /// UTF-8, messages nest in at most 100 levels, and no message has options.
-pub fn read_set(alloc: Global, bytes: &[u8]) -> Result<FileSet, SetFault> {
+pub fn read_set(alloc: Global, bytes: &[u8]) -> Result<FileSet, SetFault>
+    ensures ok { IfOk result (λ set. set ≡ file_set 100 bytes.now) }
+    ensures read { OnOk result ((length bytes.now ≤ MAX_SET_BYTES) × (set_form bytes.now ≡ true)) }
+    ensures long { (result ≡ Err SetFault.TooLong) ↔ (MAX_SET_BYTES < length bytes.now) }
+    ensures not_built { result ≡ Err SetFault.NotBuilt → (length bytes.now ≤ MAX_SET_BYTES) × (set_form bytes.now ≡ false) }
+{
     if bytes.len() > MAX_SET_BYTES {
         return Err(SetFault::TooLong);
     }

@@ -3,3 +3,4 @@ pub mod SkipLemmas
 pub mod GroupLemmas
 pub mod ExitLemmas
 pub mod TextLemmas
+pub mod PlainLemmas

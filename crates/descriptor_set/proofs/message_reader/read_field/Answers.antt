@@ -1,0 +1,16 @@
+use Rattle.std.proofs.Common.{refl}
+use Rattle.descriptor_set.proofs.LevelLemmas.{text_in}
+use Rattle.descriptor_set.specs.declared.field_numbers.Described.TheVariants.{Field}
+use Rattle.descriptor_set.proofs.message_reader.read_field.Goals as goal
+
+pub text_or_empty-requires : goal.text_or_empty-requires
+text_or_empty-requires c = text_in Field _ 1 c.in_ok-level.ensures.level refl
+
+pub text_or_empty-requires-2 : goal.text_or_empty-requires-2
+text_or_empty-requires-2 c = text_in Field _ 2 c.in_ok-level.ensures.level refl
+
+pub text_or_empty-requires-3 : goal.text_or_empty-requires-3
+text_or_empty-requires-3 c = text_in Field _ 6 c.in_ok-level.ensures.level refl
+
+pub text-requires : goal.text-requires
+text-requires c = text_in Field _ 10 c.in_ok-level.ensures.level refl
