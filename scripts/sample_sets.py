@@ -268,20 +268,18 @@ def literal(data):
 
 
 def table():
-    rows = "".join(
-        f'    ("{label}", {literal(data)}, "{target}", {"true" if built else "false"}),\n'
-        for label, data, target, built in CASES
-    )
-    return f"""//! Descriptor sets, as scripts/sample_sets.py makes them: a label, the set's bytes, a target that its
-//! template fits, and whether it is of the form that is read.
+    rows = "".join(f"{label}|{target}|{'read' if built else 'refused'}|{data.hex()}\\n\\\n" for label, data, target, built in CASES)
+    return f"""//! Descriptor sets, as scripts/sample_sets.py makes them.
 
 /// The set of one service with one GET rule, `/v1/items/{{id}}`.
 #[rattlefmt::skip]
 pub(crate) const ITEMS: &[u8] = {literal(ITEMS)};
 
+/// A line for each set: a label, a target that its template fits, whether it is of the form that is
+/// read, and its bytes in hexadecimal, between bars.
 #[rattlefmt::skip]
-pub(crate) const CASES: &[(&str, &[u8], &str, bool)] = &[
-{rows}];
+pub(crate) const CASES: &str = "\\
+{rows}";
 """
 
 

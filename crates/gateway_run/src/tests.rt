@@ -147,21 +147,25 @@ fn a_target_has_at_most_16384_bytes(rt: HostRuntime) -> Result<(), Fail> {
 
 #[test]
 fn each_point_of_the_form_is_judged(rt: HostRuntime) -> Result<(), Fail> {
-    for (label, set, target, is_built) in CASES {
-        let ran = bind(rt.alloc(), set, "GET", target)?;
-        let line = if *is_built {
+    let mut count = 0u32;
+    for row in CASES.lines() {
+        let (label, row) = row.split_once('|').ok_or("a label")?;
+        let (target, row) = row.split_once('|').ok_or("a target")?;
+        let (verdict, digits) = row.split_once('|').ok_or("a verdict")?;
+        let set = hex::decode(rt.alloc(), digits)?;
+        let ran = bind(rt.alloc(), set.as_slice(), "GET", target)?;
+        let is_read = verdict == "read";
+        let line = if is_read {
             ""
         } else {
             "descriptors: not built\n"
         };
         assert_eq!(rt; ran.err.bytes(), line.as_bytes(), "{label}");
-        assert_eq!(rt;
-            ran.status.number(),
-            if *is_built { 0 } else { 3 },
-            "{label}"
-        );
-        assert_eq!(rt; ran.out.bytes().is_empty(), !*is_built, "{label}");
+        assert_eq!(rt; ran.status.number(), if is_read { 0 } else { 3 }, "{label}");
+        assert_eq!(rt; ran.out.bytes().is_empty(), !is_read, "{label}");
+        count = count.wrapping_add(1);
     }
+    assert!(rt; count > 100);
     Ok(())
 }
 

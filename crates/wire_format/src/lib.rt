@@ -6,6 +6,7 @@
 #![tactic(auto)]
 
 mod encoder;
+mod examples;
 mod fault;
 mod groups;
 mod payload;
@@ -13,6 +14,7 @@ mod records;
 mod varint;
 
 pub use encoder::encode;
+pub use examples::{canonical_examples, decoding_examples, map_examples};
 pub use fault::{WireFault, WireKind};
 pub use groups::RawRecord;
 pub use payload::Payload;
