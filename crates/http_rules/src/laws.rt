@@ -42,11 +42,9 @@ pub fn literals_fit_their_text()
 /// A template fits a path in one way: with one list of spans.
 pub fn fits_in_one_way()
     ensures { (t : Template) (path : List ℕ) (a b : List (ℕ × ℕ)) → IsTemplate t → Matches t path a → Matches t path b → a ≡ b }
-{
-}
+{}
 
 /// The spans of a template that fits a path are one for each variable, and lie inside the path.
 pub fn spans_lie_inside()
     ensures { (t : Template) (path : List ℕ) (spans : List (ℕ × ℕ)) → Matches t path spans → AreSpansOf t path spans }
-{
-}
+{}

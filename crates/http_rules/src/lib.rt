@@ -19,8 +19,8 @@ mod unescape;
 
 pub use fault::TemplateFault;
 pub use laws::{
-    fault_ends_longest_prefix, fits_in_one_way, literal_takes_its_bytes, literals_fit_their_text, one_meaning,
-    printed_means_the_same, ranges_are_in_order, spans_lie_inside,
+    fault_ends_longest_prefix, fits_in_one_way, literal_takes_its_bytes, literals_fit_their_text,
+    one_meaning, printed_means_the_same, ranges_are_in_order, spans_lie_inside,
 };
 pub use order::same_flat;
 pub use parser::parse_template;

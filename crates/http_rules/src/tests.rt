@@ -229,3 +229,12 @@ fn routes_are_compared_and_captures_decoded(rt: HostRuntime) -> Result<(), Templ
     literals_fit_their_text();
     Ok(())
 }
+
+#[test]
+fn faults_are_displayed(rt: HostRuntime) -> Result<(), NoMemory> {
+    let shown = format!(in rt.alloc(); "{}", TemplateFault::Syntax(9))?;
+    assert_eq!(rt; shown.as_str(), "syntax fault at 9");
+    let shown = format!(in rt.alloc(); "{}", TemplateFault::TooMany)?;
+    assert_eq!(rt; shown.as_str(), "too many segments or variables");
+    Ok(())
+}
