@@ -1,0 +1,5 @@
+//! Tests that use several crates. It has no code of its own.
+#![tactic(auto)]
+
+#[cfg(test)]
+mod tests;
