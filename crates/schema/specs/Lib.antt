@@ -4,5 +4,6 @@ pub mod SlotPlaces
 pub mod Pairs
 pub mod Layers
 pub mod Types
+pub mod Apart
 pub mod Soundness
 pub mod Validity

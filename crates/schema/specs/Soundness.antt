@@ -1,9 +1,9 @@
 -- Which types are sound: what a descriptor set that protoc accepts can declare (descriptor.proto).
-use Rattle.std.specs.Prelude.{◌≡◌, ◌≢◌, ◌<◌, ◌≤◌, ◌||◌, ℕ, Bool, true, List, [], length, map, codes, nat_eq, Option, Some, None}
-use Rattle.std.specs.List.{AllByRecursion, IsDistinct}
+use Rattle.std.specs.Prelude.{◌≡◌, ◌≢◌, ◌<◌, ◌≤◌, ◌||◌, ℕ, Bool, true, false, List, [], length, map, codes, nat_eq, Option, Some, None}
+use Rattle.std.specs.List.{AllByRecursion}
 use Rattle.std.specs.Str.{bytes_eq}
+use Rattle.schema.specs.Apart.{AreApart}
 use Rattle.schema.specs.Types.{field_in}
-use Rattle.schema.specs.declared.types.enums.EnumId.{EnumId}
 use Rattle.schema.specs.declared.types.enums.EnumType.{EnumType}
 use Rattle.schema.specs.declared.types.enums.EnumValue.{EnumValue}
 use Rattle.schema.specs.declared.types.fields.Field.{Field}
@@ -18,7 +18,6 @@ use Rattle.schema.specs.declared.types.fields.Shape.TheVariants.{Single, Member,
 use Rattle.schema.specs.declared.types.messages.Known.{Known}
 use Rattle.schema.specs.declared.types.messages.Known.TheVariants.{Plain, Timestamp, Duration, FieldMask, Wrapper}
 use Rattle.schema.specs.declared.types.messages.MessageType.{MessageType}
-use Rattle.schema.specs.declared.types.messages.TypeId.{TypeId}
 use Rattle.schema.specs.declared.types.messages.Types.{Types}
 
 -- an enum that is named is declared
@@ -52,22 +51,54 @@ FitsShape (Member k) kind p = p ≢ Implicit
 FitsShape Many kind p = p ≡ Implicit
 FitsShape (Map s) kind p = (p ≡ Implicit) × IsKeyKind s
 
+-- a field that is declared packed is a list that can be
+abbrev pub FitsPacked : Field → Type 0
+FitsPacked f = f.packed ≡ true → (f.shape ≡ Many) × IsPackable f.kind
+
 -- one field of a message
 pub record IsSoundField (types : Types) (f : Field) : Type 0 where
   pub low : 1 ≤ f.number
   pub high : f.number ≤ 536870911
   pub kind : IsKindIn types f.kind
   pub shape : FitsShape f.shape f.kind f.presence
-  pub packed : f.packed ≡ true → (f.shape ≡ Many) × IsPackable f.kind
+  pub packed : FitsPacked f
 
 -- one key, a name or a JSON name, is that of both fields
 abbrev pub share_key : Field → Field → Bool
 share_key f g = bytes_eq f.name g.name || bytes_eq f.name g.json || bytes_eq f.json g.name || bytes_eq f.json g.json
 
--- a field of a well-known type: implicit, with this name, kind and shape
+-- no field of a list has this number
+abbrev pub IsFreeNumber : ℕ → List Field → Type 0
+IsFreeNumber n fs = AllByRecursion (λ m. nat_eq n m ≡ false) (map (λ f. f.number) fs)
+
+-- no field of a list shares a key with this one
+abbrev pub IsFreeKey : Field → List Field → Type 0
+IsFreeKey f fs = AllByRecursion (λ g. share_key f g ≡ false) fs
+
+-- no two fields have one number
+abbrev pub AreNumbersApart : List Field → Type 0
+AreNumbersApart fs = AreApart nat_eq (map (λ f. f.number) fs)
+
+-- no two fields share a key
+abbrev pub AreKeysApart : List Field → Type 0
+AreKeysApart fs = AreApart share_key fs
+
+-- no name of a list is this one
+abbrev pub IsFreeName : List ℕ → List EnumValue → Type 0
+IsFreeName name vs = AllByRecursion (λ n. bytes_eq name n ≡ false) (map (λ v. v.name) vs)
+
+-- no two values of an enum have one name
+abbrev pub AreNamesApart : List EnumValue → Type 0
+AreNamesApart vs = AreApart bytes_eq (map (λ v. v.name) vs)
+
+-- a field is implicit, of this kind and shape
+abbrev pub HasKnownForm : Field → Scalar → Shape → Type 0
+HasKnownForm f scalar shape = (f.kind ≡ One scalar) × (f.shape ≡ shape) × (f.presence ≡ Implicit)
+
+-- a field of a well-known type: of this name and form
 abbrev pub IsKnownField : Option Field → List ℕ → Scalar → Shape → Type 0
 IsKnownField None name scalar shape = ⊥
-IsKnownField (Some f) name scalar shape = (f.name ≡ name) × (f.kind ≡ One scalar) × (f.shape ≡ shape) × (f.presence ≡ Implicit)
+IsKnownField (Some f) name scalar shape = (f.name ≡ name) × HasKnownForm f scalar shape
 
 -- a scalar that has a wrapper (wrappers.proto)
 abbrev pub IsWrapped : Scalar → Type 0
@@ -80,25 +111,33 @@ IsWrapped TextOf = Unit {0}
 IsWrapped BytesOf = Unit {0}
 IsWrapped _ = ⊥
 
+-- the field of a wrapper: `value`, of a scalar that has one
+abbrev pub IsValueField : Option Field → Type 0
+IsValueField o = (s : Scalar) × IsWrapped s × IsKnownField o (codes "value") s Single
+
+-- the fields of a time or a duration
+abbrev pub HasSecondsAndNanos : List Field → Type 0
+HasSecondsAndNanos fs = (length fs ≡ 2) × IsKnownField (field_in fs 1) (codes "seconds") Int64 Single × IsKnownField (field_in fs 2) (codes "nanos") Int32 Single
+
 -- a well-known type has exactly its fields (timestamp.proto, duration.proto, field_mask.proto, wrappers.proto)
 abbrev pub HasKnownFields : Known → List Field → Type 0
 HasKnownFields Plain fs = Unit {0}
-HasKnownFields Timestamp fs = (length fs ≡ 2) × IsKnownField (field_in fs 1) (codes "seconds") Int64 Single × IsKnownField (field_in fs 2) (codes "nanos") Int32 Single
-HasKnownFields Duration fs = (length fs ≡ 2) × IsKnownField (field_in fs 1) (codes "seconds") Int64 Single × IsKnownField (field_in fs 2) (codes "nanos") Int32 Single
+HasKnownFields Timestamp fs = HasSecondsAndNanos fs
+HasKnownFields Duration fs = HasSecondsAndNanos fs
 HasKnownFields FieldMask fs = (length fs ≡ 1) × IsKnownField (field_in fs 1) (codes "paths") TextOf Many
-HasKnownFields Wrapper fs = (length fs ≡ 1) × ((s : Scalar) × IsWrapped s × IsKnownField (field_in fs 1) (codes "value") s Single)
+HasKnownFields Wrapper fs = (length fs ≡ 1) × IsValueField (field_in fs 1)
 
 -- one message type
 pub record IsSoundMessage (types : Types) (m : MessageType) : Type 0 where
   pub fields : AllByRecursion (IsSoundField types) m.fields
-  pub numbers : IsDistinct nat_eq (map (λ f. f.number) m.fields)
-  pub keys : IsDistinct share_key m.fields
+  pub numbers : AreNumbersApart m.fields
+  pub keys : AreKeysApart m.fields
   pub known : HasKnownFields m.known m.fields
 
 -- one enum type: it has a value, and no name twice
 pub record IsSoundEnum (e : EnumType) : Type 0 where
   pub some : e.values ≢ []
-  pub names : IsDistinct bytes_eq (map (λ v. v.name) e.values)
+  pub names : AreNamesApart e.values
 
 -- all types
 pub record IsSound (types : Types) : Type 0 where

@@ -1,13 +1,14 @@
 -- Which values a message type has (the encoding guide and descriptor.proto's types): each number is a
 -- field's, each slot fits its field, no default is stored where absence says the same, no list or map is
 -- empty, a oneof has one member at most, and the depth is within a limit.
-use Rattle.std.specs.Prelude.{◌≡◌, ◌≢◌, ◌≤ℤ◌, ◌<ℤ◌, ◌^◌, ◌-◌, ◌==◌, pos, negsuc, ℕ, ℤ, zero, suc, Bool, true, false, List, [], ◌∷◌, length, map, nat_eq, Option, Some, None, if◌then◌else◌}
-use Rattle.std.specs.List.{AllByRecursion, IsDistinct, filter_map}
-use Rattle.std.specs.Ordering.{int_eq, is_lt}
+use Rattle.std.specs.Prelude.{◌≡◌, ◌≢◌, ◌≤ℤ◌, ◌<ℤ◌, ◌^◌, ◌-◌, ◌==◌, pos, negsuc, ℕ, ℤ, zero, suc, Bool, true, false, List, [], length, nat_eq, Option, Some, None, if◌then◌else◌}
+use Rattle.std.specs.List.{AllByRecursion, filter_map}
+use Rattle.std.specs.Ordering.{int_eq}
 use Rattle.std.specs.Str.{IsUtf8}
+use Rattle.schema.specs.Apart.{AreApart}
 use Rattle.schema.specs.Layers.{ItemLayer, SlotLayer}
-use Rattle.schema.specs.Pairs.{entries_of, key_cmp}
-use Rattle.schema.specs.Types.{field_of}
+use Rattle.schema.specs.Pairs.{entries_of, KeysRise}
+use Rattle.schema.specs.Types.{field_in, fields_of}
 use Rattle.schema.specs.Value.{RiseFrom, slots_of}
 use Rattle.schema.specs.declared.key.Key.{Key}
 use Rattle.schema.specs.declared.key.Key.TheVariants.{Number as NumberKey, Truth as TruthKey, Text as TextKey}
@@ -76,12 +77,6 @@ abbrev pub IsStored : Presence → ItemLayer → Type 0
 IsStored Implicit i = is_default i ≡ false
 IsStored Explicit i = Unit {0}
 
--- keys rise, each above the one before
-abbrev pub KeysRise : List (Key × Item) → Type 0
-KeysRise [] = Unit {0}
-KeysRise (e ∷ []) = Unit {0}
-KeysRise (e ∷ d ∷ es) = (is_lt (key_cmp e.0 d.0) ≡ true) × KeysRise (d ∷ es)
-
 -- what is valid one level further in: a message of a type, and an entry of a map with keys and values of these kinds
 pub record Inner : Type 1 where
   pub message : TypeId → Value → Type 0
@@ -93,12 +88,16 @@ IsItem inner (OneOf s) i = IsScalarItem s i
 IsItem inner (MessageOf id) (Message v) = inner.message id v
 IsItem inner (MessageOf id) _ = ⊥
 
+-- entries are those of a map with keys and values of these kinds
+abbrev pub IsMapOf : Inner → Scalar → Kind → List (Key × Item) → Type 0
+IsMapOf inner s kind es = (es ≢ []) × KeysRise es × AllByRecursion (inner.entry s kind) es
+
 -- a slot fits a field with this shape
 abbrev pub IsSlot : Inner → Field → Shape → SlotLayer → Type 0
 IsSlot inner f Single (One i) = IsItem inner f.kind (out-Item i) × IsStored f.presence (out-Item i)
 IsSlot inner f (Member k) (One i) = IsItem inner f.kind (out-Item i) × IsStored f.presence (out-Item i)
 IsSlot inner f ManyOf (Many is) = (is ≢ []) × AllByRecursion (λ i. IsItem inner f.kind (out-Item i)) is
-IsSlot inner f (MapOf s) (Pairs ps) = (entries_of ps ≢ []) × KeysRise (entries_of ps) × AllByRecursion (inner.entry s f.kind) (entries_of ps)
+IsSlot inner f (MapOf s) (Pairs ps) = IsMapOf inner s f.kind (entries_of ps)
 IsSlot inner f _ _ = ⊥
 
 -- a slot fits the field that its number has
@@ -115,11 +114,23 @@ oneof_of (Some f) = index f.shape
     index (Member k) = Some k
     index _ = None
 
+-- the oneofs of which the fields of a list of slots are members
+abbrev pub oneofs_in : List Field → List (ℕ × Slot) → List ℕ
+oneofs_in fields es = filter_map (λ (e : ℕ × Slot). oneof_of (field_in fields e.0)) es
+
+-- no field of a list of slots is a member of this oneof
+abbrev pub IsFreeOneof : List Field → ℕ → List (ℕ × Slot) → Type 0
+IsFreeOneof fields k es = AllByRecursion (λ j. nat_eq k j ≡ false) (oneofs_in fields es)
+
+-- each slot of a list fits its field
+abbrev pub AreFieldSlots : Inner → List Field → List (ℕ × Slot) → Type 0
+AreFieldSlots inner fields es = AllByRecursion (λ (e : ℕ × Slot). IsFieldSlot inner (field_in fields e.0) e.1) es
+
 -- a message of the type, where `inner` says what its parts may be
 pub record IsMessage (inner : Inner) (types : Types) (id : TypeId) (v : Value) : Type 0 where
   pub rising : RiseFrom 0 (slots_of v)
-  pub slots : AllByRecursion (λ (e : ℕ × Slot). IsFieldSlot inner (field_of types id e.0) e.1) (slots_of v)
-  pub oneofs : IsDistinct nat_eq (filter_map (λ (e : ℕ × Slot). oneof_of (field_of types id e.0)) (slots_of v))
+  pub slots : AreFieldSlots inner (fields_of types id) (slots_of v)
+  pub oneofs : AreApart nat_eq (oneofs_in (fields_of types id) (slots_of v))
 
 -- what is valid in so many levels: a message is one, and an entry of a map is one
 unfoldable pub valid_within : ℕ → Types → Inner

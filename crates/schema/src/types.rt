@@ -2,4 +2,5 @@
 
 pub mod enums;
 pub mod fields;
+pub mod lookup;
 pub mod messages;
