@@ -1,7 +1,6 @@
 -- A group, record by record.
-use Rattle.std.proofs.Common.{◌≡◌, ◌+◌, ◌-◌, ◌≤◌, ◌<◌, ℕ, zero, suc, List, [], length, drop, Option, Some, None, Result, Ok, Err, arith, refl, ap, sym, ◌∙◌, length-drop}
+use Rattle.std.proofs.Common.{◌≡◌, ◌+◌, ◌-◌, ◌≤◌, ◌<◌, ℕ, zero, suc, List, [], length, drop, Some, None, Result, Ok, Err, arith, refl, ap, sym, ◌∙◌, length-drop}
 use Rattle.std.proofs.lemmas.List.{drop-drop, nil_from_length}
-use Rattle.wire_format.specs.declared.fault.WireKind.{WireKind}
 use Rattle.wire_format.specs.declared.fault.WireKind.TheVariants.{TooDeep}
 use Rattle.wire_format.specs.WireRecord.{Record, Stop, onward, group_rest, end_of, tag_in, record_with, group_in}
 use Rattle.wire_format.proofs.SkipLemmas.{rest_next, rest_stop, rest_end, onward_twice}

@@ -2,5 +2,7 @@ pub mod PowerLemmas
 pub mod SkipLemmas
 pub mod GroupLemmas
 pub mod ExitLemmas
-pub mod TextLemmas
 pub mod PlainLemmas
+pub mod RecordLemmas
+pub mod ValidLemmas
+pub mod SizeLemmas

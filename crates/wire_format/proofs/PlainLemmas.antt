@@ -1,13 +1,10 @@
 -- Records of VARINT and LEN with tags in their shortest form: they are records whatever the level, and a reading of all
 -- goes record by record.
-use Rattle.std.proofs.Common.{◌≡◌, ◌==◌, ◌-◌, ◌≤◌, ◌<◌, ◌&&◌, ◌||◌, ℕ, zero, suc, Bool, true, false, cond, List, [], ◌∷◌, length, drop, Option, Some, None, Result, Ok, Err, arith, refl, ap, sym, ◌∙◌, subst}
+use Rattle.std.proofs.Common.{◌≡◌, ◌==◌, ◌-◌, ◌≤◌, ◌<◌, ◌&&◌, ◌||◌, ℕ, zero, suc, Bool, true, false, cond, List, [], ◌∷◌, length, drop, Option, Some, None, Result, Ok, Err, arith, refl, ap, sym, ◌∙◌}
 use Rattle.std.proofs.lemmas.Bool.{eqb-true}
-use Rattle.wire_format.specs.Outcome.{◌>>=◌}
 use Rattle.wire_format.specs.PlainRecords.{is_plain, found, plain_record, plain_records, all_plain, and_plain, and_all_plain}
-use Rattle.wire_format.specs.Varint.{varint}
-use Rattle.wire_format.specs.WireRecord.{Tag, Record, Stop, Payload, Piece, group, at_front, tag_in, payload_in, record_with, group_in, record_in, whole, records, and_records}
+use Rattle.wire_format.specs.WireRecord.{Tag, Record, Stop, tag_in, record_with, group_in, record_in, whole, records, and_records}
 use Rattle.wire_format.specs.declared.fault.WireKind.{WireKind}
-use Rattle.wire_format.specs.declared.fault.WireKind.TheVariants.{BadGroup}
 use Rattle.wire_format.proofs.SkipLemmas.{drop_one}
 
 -- a plain tag is that of no group

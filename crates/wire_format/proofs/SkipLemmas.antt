@@ -1,7 +1,6 @@
 -- Skipping bytes is dropping them, and so a recursion over bytes goes record by record.
-use Rattle.std.proofs.Common.{◌≡◌, ◌+◌, ◌-◌, ◌≤◌, ◌<◌, ℕ, zero, suc, List, [], ◌∷◌, length, drop, Option, Some, None, Result, Ok, Err, arith, refl, ap, sym, ◌∙◌}
-use Rattle.wire_format.specs.declared.fault.WireKind.{WireKind}
-use Rattle.wire_format.specs.WireRecord.{Record, Stop, Tag, onward, group_rest, group_step, end_of, tag_in, record_with, records, and_records, record_in}
+use Rattle.std.proofs.Common.{◌≡◌, ◌+◌, ◌-◌, ◌≤◌, ◌<◌, ℕ, zero, suc, List, [], ◌∷◌, length, drop, Some, None, Result, Ok, Err, arith, refl, ap, sym, ◌∙◌}
+use Rattle.wire_format.specs.WireRecord.{Record, Stop, onward, group_rest, end_of, tag_in, record_with, records, record_in}
 
 pub drop_one : (n b : ℕ) (bs : List ℕ) → 1 ≤ n → drop n (b ∷ bs) ≡ drop (n - 1) bs
 drop_one zero b bs h = absurd (omega arith)

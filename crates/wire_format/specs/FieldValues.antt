@@ -1,6 +1,6 @@
 -- The value that bytes are as a message: for each field the slot that its records say (the encoding guide,
 -- "Last One Wins", "Oneofs", "Packed Repeated Fields", "Maps").
-use Rattle.std.specs.Prelude.{◌==◌, ◌&&◌, ◌||◌, ℕ, pos, zero, suc, true, false, Bool, List, [], ◌∷◌, Option, Some, None, map, is_some, if◌then◌else◌, option_and_then, option_map, unwrap_or}
+use Rattle.std.specs.Prelude.{◌==◌, ◌&&◌, ◌||◌, ℕ, pos, zero, suc, false, Bool, List, [], ◌∷◌, Option, Some, None, map, is_some, if◌then◌else◌, option_and_then, option_map, unwrap_or}
 use Rattle.std.specs.List.{flat_map, filter_map}
 use Rattle.std.specs.Ordering.{is_eq, is_lt}
 use Rattle.schema.specs.Layers.{ItemLayer}

@@ -12,6 +12,7 @@ pub mod WireFaults
 pub mod FieldValues
 pub mod Decoding
 pub mod CanonicalBytes
+pub mod Sizes
 pub mod WorkedExamples
 pub mod RecordViews
 pub mod PlainRecords

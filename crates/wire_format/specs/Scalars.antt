@@ -3,10 +3,9 @@
 use Rattle.std.specs.Prelude.{◌==◌, ◌%◌, ◌^◌, ◌/◌, ◌-◌, ℕ, ℤ, pos, negsuc, zero, suc, true, false, Bool, List, [], ◌∷◌, Option, Some, None, Result, Ok, Err, if◌then◌else◌}
 use Rattle.std.specs.Int.{w32, w64, cast_signed}
 use Rattle.schema.specs.Layers.{ItemLayer}
-use Rattle.schema.specs.declared.value.Item.TheOpen.{Number, Truth, Text, Bytes, Message}
-use Rattle.schema.specs.declared.value.Item.{roll-Item, Item}
+use Rattle.schema.specs.declared.value.Item.TheOpen.{Number, Truth, Text, Bytes}
 use Rattle.schema.specs.declared.types.fields.Scalar.{Scalar}
-use Rattle.schema.specs.declared.types.fields.Scalar.TheVariants.{Int32, Int64, Uint32, Uint64, Sint32, Sint64, Fixed32, Fixed64, Sfixed32, Sfixed64, Bool as BoolOf, Text as TextOf, Bytes as BytesOf, Enumeration}
+use Rattle.schema.specs.declared.types.fields.Scalar.TheVariants.{Int32, Int64, Uint32, Sint32, Sint64, Fixed32, Fixed64, Sfixed32, Sfixed64, Bool as BoolOf, Text as TextOf, Bytes as BytesOf, Enumeration}
 use Rattle.wire_format.specs.declared.fault.WireKind.{WireKind}
 use Rattle.wire_format.specs.WireRecord.{Payload, Piece, number, eight, sized, four, payload_in}
 

@@ -1,6 +1,6 @@
 -- The first fault of bytes as a message of a type: of its records, of the payloads of its message fields in every
 -- level, replaced later or not, and of its text. The least place counts, which is the first from the left.
-use Rattle.std.specs.Prelude.{◌==◌, ◌+◌, ◌-◌, ◌&&◌, ◌||◌, ℕ, zero, suc, true, false, Bool, List, [], ◌∷◌, Option, Some, None, Result, Ok, Err, if◌then◌else◌, slice_get, unwrap_or, option_map}
+use Rattle.std.specs.Prelude.{◌==◌, ◌+◌, ◌-◌, ◌&&◌, ◌||◌, ℕ, zero, suc, true, false, Bool, List, [], ◌∷◌, Option, Some, None, Result, Ok, Err, if◌then◌else◌}
 use Rattle.std.specs.Str.{is_utf8}
 use Rattle.schema.specs.Types.{field_in, fields_of}
 use Rattle.schema.specs.declared.types.fields.Field.{Field}
@@ -10,8 +10,7 @@ use Rattle.schema.specs.declared.types.fields.Presence.TheVariants.{Explicit}
 use Rattle.schema.specs.declared.types.fields.Scalar.{Scalar}
 use Rattle.schema.specs.declared.types.fields.Scalar.TheVariants.{Text as TextOf}
 use Rattle.schema.specs.declared.types.fields.Shape.{Shape}
-use Rattle.schema.specs.declared.types.fields.Shape.TheVariants.{Single, Member, Many, Map as MapOf}
-use Rattle.schema.specs.declared.types.messages.TypeId.{TypeId}
+use Rattle.schema.specs.declared.types.fields.Shape.TheVariants.{Single, Many, Map as MapOf}
 use Rattle.schema.specs.declared.types.messages.Types.{Types}
 use Rattle.wire_format.specs.declared.fault.WireKind.{WireKind}
 use Rattle.wire_format.specs.declared.fault.WireKind.TheVariants.{TooDeep}

@@ -1,5 +1,5 @@
 -- Worked examples of the encoding guide's rules, computed by the definitions.
-use Rattle.std.specs.Prelude.{◌≡◌, pos, negsuc, [], ◌∷◌, List, ℕ, false, true, codes, Ok, Err}
+use Rattle.std.specs.Prelude.{◌≡◌, pos, negsuc, [], ◌∷◌, false, true, codes, Ok, Err}
 use Rattle.schema.specs.declared.key.Key.TheVariants.{Text as TextKey}
 use Rattle.schema.specs.declared.types.fields.Kind.TheVariants.{One as OneOf, Message as MessageOf}
 use Rattle.schema.specs.declared.types.fields.Presence.TheVariants.{Implicit, Explicit}

@@ -1,13 +1,22 @@
-//! Canonical bytes (the encoding guide): fields by rising number, shortest varints.
-ghost use Rattle.std.specs.Prelude.{◌≡◌, ◌++◌, OnOk, OnErr};
-ghost use Rattle.std.specs.List.{flat_map};
-ghost use Rattle.schema.specs.Validity.{IsValid};
-ghost use Rattle.wire_format.specs.CanonicalBytes.{canonical_bytes, tag, delimited};
+//! Canonical bytes (the encoding guide): fields by rising number, shortest varints, lists packed as
+//! declared, entries of maps by rising key.
+ghost use Rattle.std.specs.Prelude.{◌≡◌, ◌++◌, ℕ, List, length, OnOk, OnErr};
+ghost use Rattle.std.specs.List.{AllByRecursion};
+ghost use Rattle.schema.specs.Validity.{IsScalarItem, IsItem, IsSlot, IsFieldSlot, AreFieldSlots, IsValid, key_item, valid_within};
+ghost use Rattle.schema.specs.Types.{field_in};
+ghost use Rattle.schema.specs.declared.value.Item.{out-Item};
+ghost use Rattle.schema.specs.declared.value.Slot.{out-Slot};
+ghost use Rattle.wire_format.specs.CanonicalBytes.{canonical_within, canonical_bytes, tag, delimited, truth_bytes, key_bytes, item_bytes, record_bytes, entry_bytes, entry_record, slot_bytes, field_bytes, entries_bytes, items_bytes, records_bytes, list_bytes, slots_bytes};
 ghost use Rattle.wire_format.specs.Extends.{Extends};
-ghost use Rattle.wire_format.specs.TextFields.{HasTextFields, IsTextSlot, AreTextSlots, text_of, text_bytes};
+ghost use Rattle.wire_format.specs.Sizes.{size_of};
+ghost use Rattle.wire_format.specs.Varint.{varint};
 
+use crate::numbers::{put_bytes, put_number};
+use crate::sizes::{entry_len, items_len, message_len, scalar_wire, wire_of};
 use crate::varint::put_varint;
-use schema::{Item, NoMemory, Slot, TypeId, Types, Value};
+use schema::{
+    Field, Item, Key, Kind, NoMemory, Scalar, Shape, Slot, TypeId, Types, Value, find_field,
+};
 
 /// Appends a tag.
 fn put_tag(out: &mut Vec<u8>, number: u32, wire: u8) -> Result<(), NoMemory>
@@ -23,47 +32,317 @@ fn put_delimited(out: &mut Vec<u8>, bytes: &[u8]) -> Result<(), NoMemory>
     ensures err { OnErr result (Extends out.old.items out.new.items) }
 {
     put_varint(out, bytes.len() as u64)?;
-    out.extend_from_slice(bytes)?;
+    put_bytes(out, bytes)
+}
+
+/// Appends the length of bytes that follow. No memory holds as many as 64 bits cannot tell.
+fn put_len(out: &mut Vec<u8>, len: u64) -> Result<(), NoMemory>
+    ensures ok { OnOk result ((bytes : List ℕ) → len ≡ size_of bytes → out.new.items ≡ out.old.items ++ varint (length bytes)) }
+    ensures err { OnErr result (Extends out.old.items out.new.items) }
+{
+    if len == u64::MAX {
+        return Err(NoMemory);
+    }
+    put_varint(out, len)
+}
+
+/// Appends a truth value.
+fn put_truth(out: &mut Vec<u8>, truth: bool) -> Result<(), NoMemory>
+    ensures ok { OnOk result (out.new.items ≡ out.old.items ++ truth_bytes truth) }
+    ensures err { OnErr result (Extends out.old.items out.new.items) }
+{
+    out.push(u8::from(truth))?;
     Ok(())
 }
 
-/// Appends a slot with one text.
-fn put_text(out: &mut Vec<u8>, number: u32, slot: &Slot) -> Result<(), NoMemory>
-    requires { IsTextSlot slot.now }
-    ensures ok { OnOk result (out.new.items ≡ out.old.items ++ (tag number 2 ++ delimited (text_of slot.now))) }
+/// Appends the key of an entry, behind its tag.
+fn put_key(out: &mut Vec<u8>, scalar: Scalar, key: &Key) -> Result<(), NoMemory>
+    requires { IsScalarItem scalar (key_item key.now) }
+    ensures ok { OnOk result (out.new.items ≡ out.old.items ++ key_bytes scalar key.now) }
     ensures err { OnErr result (Extends out.old.items out.new.items) }
 {
-    match slot {
-        Slot::One(Item::Text(text)) => {
-            put_tag(out, number, 2)?;
-            put_delimited(out, text.as_str().as_bytes())
+    match key {
+        Key::Number(number) => put_number(out, scalar, *number),
+        Key::Truth(truth) => put_truth(out, *truth),
+        Key::Text(text) => put_delimited(out, text.as_str().as_bytes()),
+    }
+}
+
+/// Appends an item, behind its tag.
+#[cycle(put)]
+fn put_item(
+    out: &mut Vec<u8>,
+    types: &Types,
+    kind: Kind,
+    item: &Item,
+    level: u32,
+) -> Result<(), NoMemory>
+    requires { IsItem (valid_within level types.now) kind (out-Item item.now) }
+    ensures ok { OnOk result (out.new.items ≡ out.old.items ++ item_bytes (canonical_within level types.now) kind (out-Item item.now)) }
+    ensures err { OnErr result (Extends out.old.items out.new.items) }
+{
+    match (kind, item) {
+        (Kind::One(scalar), Item::Number(number)) => put_number(out, scalar, *number),
+        (Kind::One(_), Item::Truth(truth)) => put_truth(out, *truth),
+        (Kind::One(_), Item::Text(text)) => put_delimited(out, text.as_str().as_bytes()),
+        (Kind::One(_), Item::Bytes(bytes)) => put_delimited(out, bytes.as_slice()),
+        (Kind::Message(id), Item::Message(value)) => put_inner(out, types, id, value, level),
+        _ => Ok(()),
+    }
+}
+
+/// Appends a message behind its length.
+#[cycle(put)]
+fn put_inner(
+    out: &mut Vec<u8>,
+    types: &Types,
+    id: TypeId,
+    value: &Value,
+    level: u32,
+) -> Result<(), NoMemory>
+    requires { (valid_within level types.now).message id value.now }
+    ensures ok { OnOk result (out.new.items ≡ out.old.items ++ delimited (canonical_within level types.now id value.now)) }
+    ensures err { OnErr result (Extends out.old.items out.new.items) }
+{
+    put_len(out, message_len(types, id, value, level))?;
+    put_message(out, types, id, value, level)
+}
+
+/// Appends an item with its tag.
+#[cycle(put)]
+fn put_record(
+    out: &mut Vec<u8>,
+    types: &Types,
+    number: u32,
+    kind: Kind,
+    item: &Item,
+    level: u32,
+) -> Result<(), NoMemory>
+    requires { IsItem (valid_within level types.now) kind (out-Item item.now) }
+    ensures ok { OnOk result (out.new.items ≡ out.old.items ++ record_bytes (canonical_within level types.now) number kind item.now) }
+    ensures err { OnErr result (Extends out.old.items out.new.items) }
+{
+    put_tag(out, number, wire_of(kind))?;
+    put_item(out, types, kind, item, level)
+}
+
+/// Appends items without tags.
+#[cycle(put)]
+fn put_items(
+    out: &mut Vec<u8>,
+    types: &Types,
+    kind: Kind,
+    items: &[Item],
+    level: u32,
+) -> Result<(), NoMemory>
+    requires { AllByRecursion (λ i. IsItem (valid_within level types.now) kind (out-Item i)) items.now }
+    ensures ok { OnOk result (out.new.items ≡ out.old.items ++ items_bytes (canonical_within level types.now) kind items.now) }
+    ensures err { OnErr result (Extends out.old.items out.new.items) }
+{
+    for item in items {
+        put_item(out, types, kind, item, level)?;
+    }
+    Ok(())
+}
+
+/// Appends items, each with its tag.
+#[cycle(put)]
+fn put_records(
+    out: &mut Vec<u8>,
+    types: &Types,
+    number: u32,
+    kind: Kind,
+    items: &[Item],
+    level: u32,
+) -> Result<(), NoMemory>
+    requires { AllByRecursion (λ i. IsItem (valid_within level types.now) kind (out-Item i)) items.now }
+    ensures ok { OnOk result (out.new.items ≡ out.old.items ++ records_bytes (canonical_within level types.now) number kind items.now) }
+    ensures err { OnErr result (Extends out.old.items out.new.items) }
+{
+    for item in items {
+        put_record(out, types, number, kind, item, level)?;
+    }
+    Ok(())
+}
+
+/// Appends the key and the value of an entry.
+#[cycle(put)]
+#[tactic(auto, using(crate::proofs::ValidLemmas::entry_item, crate::proofs::ValidLemmas::entry_key))]
+fn put_pair(
+    out: &mut Vec<u8>,
+    types: &Types,
+    scalar: Scalar,
+    kind: Kind,
+    key: &Key,
+    item: &Item,
+    level: u32,
+) -> Result<(), NoMemory>
+    requires { (valid_within level types.now).entry scalar kind (key.now, item.now) }
+    ensures ok { OnOk result (out.new.items ≡ out.old.items ++ entry_bytes (canonical_within level types.now) scalar kind (key.now, item.now)) }
+    ensures err { OnErr result (Extends out.old.items out.new.items) }
+{
+    put_tag(out, 1, scalar_wire(scalar))?;
+    put_key(out, scalar, key)?;
+    put_record(out, types, 2, kind, item, level)
+}
+
+/// Appends an entry of a map with its tag and length.
+#[cycle(put)]
+fn put_entry(
+    out: &mut Vec<u8>,
+    types: &Types,
+    number: u32,
+    scalar: Scalar,
+    kind: Kind,
+    key: &Key,
+    item: &Item,
+    level: u32,
+) -> Result<(), NoMemory>
+    requires { (valid_within level types.now).entry scalar kind (key.now, item.now) }
+    ensures ok { OnOk result (out.new.items ≡ out.old.items ++ entry_record (canonical_within level types.now) number scalar kind (key.now, item.now)) }
+    ensures err { OnErr result (Extends out.old.items out.new.items) }
+{
+    put_tag(out, number, 2)?;
+    put_len(out, entry_len(types, scalar, kind, key, item, level))?;
+    put_pair(out, types, scalar, kind, key, item, level)
+}
+
+/// Appends the entries of a map.
+#[cycle(put)]
+fn put_entries(
+    out: &mut Vec<u8>,
+    types: &Types,
+    number: u32,
+    scalar: Scalar,
+    kind: Kind,
+    entries: &[(Key, Item)],
+    level: u32,
+) -> Result<(), NoMemory>
+    requires { AllByRecursion ((valid_within level types.now).entry scalar kind) entries.now }
+    ensures ok { OnOk result (out.new.items ≡ out.old.items ++ entries_bytes (canonical_within level types.now) number scalar kind entries.now) }
+    ensures err { OnErr result (Extends out.old.items out.new.items) }
+{
+    for (key, item) in entries {
+        put_entry(out, types, number, scalar, kind, key, item, level)?;
+    }
+    Ok(())
+}
+
+/// Appends a list, packed or not.
+#[cycle(put)]
+fn put_list(
+    out: &mut Vec<u8>,
+    types: &Types,
+    field: &Field,
+    items: &[Item],
+    level: u32,
+) -> Result<(), NoMemory>
+    requires { AllByRecursion (λ i. IsItem (valid_within level types.now) field.now.kind (out-Item i)) items.now }
+    ensures ok { OnOk result (out.new.items ≡ out.old.items ++ list_bytes (canonical_within level types.now) field.now items.now) }
+    ensures err { OnErr result (Extends out.old.items out.new.items) }
+{
+    if field.packed {
+        put_tag(out, field.number, 2)?;
+        put_len(out, items_len(types, field.kind, items, level))?;
+        return put_items(out, types, field.kind, items, level);
+    }
+    put_records(out, types, field.number, field.kind, items, level)
+}
+
+/// Appends a slot.
+#[cycle(put)]
+fn put_slot(
+    out: &mut Vec<u8>,
+    types: &Types,
+    field: &Field,
+    slot: &Slot,
+    level: u32,
+) -> Result<(), NoMemory>
+    requires { IsSlot (valid_within level types.now) field.now field.now.shape (out-Slot slot.now) }
+    ensures ok { OnOk result (out.new.items ≡ out.old.items ++ slot_bytes (canonical_within level types.now) field.now field.now.shape (out-Slot slot.now)) }
+    ensures err { OnErr result (Extends out.old.items out.new.items) }
+{
+    let (number, kind) = (field.number, field.kind);
+    match (field.shape, slot) {
+        (Shape::Single, Slot::One(item)) => put_record(out, types, number, kind, item, level),
+        (Shape::Member(_), Slot::One(item)) => put_record(out, types, number, kind, item, level),
+        (Shape::Many, Slot::Many(items)) => put_list(out, types, field, items.as_slice(), level),
+        (Shape::Map(scalar), Slot::Pairs(pairs)) => {
+            put_entries(out, types, number, scalar, kind, pairs.entries(), level)
         }
         _ => unreachable!(),
     }
 }
 
-/// Appends the slots in order.
-fn put_texts(out: &mut Vec<u8>, fields: &[(u32, Slot)]) -> Result<(), NoMemory>
-    requires { AreTextSlots fields.now }
-    ensures ok { OnOk result (out.new.items ≡ out.old.items ++ flat_map text_bytes fields.now) }
+/// Appends the slot of a field that its number has.
+#[cycle(put)]
+fn put_field(
+    out: &mut Vec<u8>,
+    types: &Types,
+    fields: &[Field],
+    number: u32,
+    slot: &Slot,
+    level: u32,
+) -> Result<(), NoMemory>
+    requires { IsFieldSlot (valid_within level types.now) (field_in fields.now number) slot.now }
+    ensures ok { OnOk result (out.new.items ≡ out.old.items ++ field_bytes (canonical_within level types.now) (field_in fields.now number) slot.now) }
     ensures err { OnErr result (Extends out.old.items out.new.items) }
 {
-    for (number, slot) in fields {
-        put_text(out, *number, slot)?;
+    match find_field(fields, number) {
+        Some(field) => put_slot(out, types, field, slot, level),
+        None => unreachable!(),
+    }
+}
+
+/// Appends slots in order.
+#[cycle(put)]
+fn put_slots(
+    out: &mut Vec<u8>,
+    types: &Types,
+    fields: &[Field],
+    slots: &[(u32, Slot)],
+    level: u32,
+) -> Result<(), NoMemory>
+    requires { AreFieldSlots (valid_within level types.now) fields.now slots.now }
+    ensures ok { OnOk result (out.new.items ≡ out.old.items ++ slots_bytes (canonical_within level types.now) fields.now slots.now) }
+    ensures err { OnErr result (Extends out.old.items out.new.items) }
+{
+    for (number, slot) in slots {
+        put_field(out, types, fields, *number, slot, level)?;
     }
     Ok(())
 }
 
+/// Appends a message of so many levels.
+#[cycle(put)]
+#[tactic(auto, using(crate::proofs::ValidLemmas::message_slots))]
+fn put_message(
+    out: &mut Vec<u8>,
+    types: &Types,
+    id: TypeId,
+    value: &Value,
+    level: u32,
+) -> Result<(), NoMemory>
+    requires { (valid_within level types.now).message id value.now }
+    ensures ok { OnOk result (out.new.items ≡ out.old.items ++ canonical_within level types.now id value.now) }
+    ensures err { OnErr result (Extends out.old.items out.new.items) }
+{
+    if level == 0 {
+        return Ok(());
+    }
+    put_slots(out, types, types.fields(id), value.fields(), level - 1)
+}
+
 /// Appends the canonical bytes of a valid value of the type; `out` is as before where no memory is
-/// found. So far all fields of the type are single strings with implicit presence.
+/// found.
+#[tactic(auto, unfolding(crate::specs::CanonicalBytes::canonical_bytes))]
 pub fn encode(types: &Types, id: TypeId, value: &Value, out: &mut Vec<u8>) -> Result<(), NoMemory>
-    requires texts { HasTextFields types.now id }
     requires valid { IsValid types.now id value.now }
     ensures ok { OnOk result (out.new.items ≡ out.old.items ++ canonical_bytes types.now id value.now) }
     ensures err { OnErr result (out.new.items ≡ out.old.items) }
 {
     let len = out.len();
-    let done = put_texts(out, value.fields());
+    let done = put_message(out, types, id, value, 100);
     if done.is_err() {
         out.truncate(len);
     }

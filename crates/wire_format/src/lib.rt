@@ -1,16 +1,17 @@
 //! The protobuf wire format (the encoding guide): records of bytes, and the canonical bytes of a
 //! value.
 //!
-//! So far `Records` reads VARINT and LEN records, and `encode` writes messages of strings; the
-//! definitions in specs/ are those of all kinds. Begin with `Records` and `encode`.
+//! `Records` reads the records of one level, and `encode` writes a value. Begin with these two.
 #![tactic(auto)]
 
 mod encoder;
 mod examples;
 mod fault;
 mod groups;
+mod numbers;
 mod payload;
 mod records;
+mod sizes;
 mod varint;
 
 pub use encoder::encode;
@@ -19,3 +20,4 @@ pub use fault::{WireFault, WireKind};
 pub use groups::RawRecord;
 pub use payload::Payload;
 pub use records::{Record, Records, first_record};
+pub use sizes::encoded_len;

@@ -2,11 +2,11 @@
 //! Structure").
 ghost use Rattle.std.specs.Prelude.{◌≡◌, ◌≤◌, ◌+◌, length, option_map, IfSome};
 ghost use Rattle.wire_format.specs.PlainRecords.{plain_record, is_plain as is_plain_tag};
-ghost use Rattle.wire_format.specs.RecordReader.{IsNext, wire_type as wire_type_of};
+ghost use Rattle.wire_format.specs.RecordReader.{IsNext, TellsFirst, wire_type as wire_type_of};
 ghost use Rattle.wire_format.specs.RecordViews.{raw_of, payload_of, sized_len};
 ghost use Rattle.wire_format.specs.WireRecord.{tag_in};
 
-use crate::fault::{WireFault, WireKind};
+use crate::fault::WireFault;
 use crate::groups::{RawRecord, record_of};
 use crate::payload::{Payload, tag_of};
 use crate::varint::varint_len;
@@ -67,8 +67,8 @@ pub fn first_record(bytes: &[u8]) -> Option<RawRecord<'_>>
     }
 }
 
-/// The records of one level, one after another. So far only VARINT and LEN records with tags in
-/// their shortest form are read: at any other it stops for good.
+/// The records of one level, one after another, of every wire type. A group is one record, and what
+/// is in it is read for faults alone; groups nest in 99 levels.
 #[derive(Drop)]
 pub struct Records<'a> {
     bytes: &'a [u8],
@@ -93,16 +93,24 @@ impl<'a> Records<'a> {
         Records { bytes, at: 0 }
     }
 
-    /// The next record, or None at the end. A fault changes nothing, so that it comes again.
+    /// The next record, or None at the end. A fault changes nothing, so that it comes again. Takes
+    /// no memory.
     pub fn next(&mut self) -> Option<Result<Record, WireFault>>
+        ensures { TellsFirst self.old result self.new }
+    {
+        self.step()
+    }
+
+    /// The record where the reader stands.
+    fn step(&mut self) -> Option<Result<Record, WireFault>>
         ensures { IsNext self.old result self.new }
     {
         if self.at == self.bytes.len() {
             return None;
         }
         let place = self.at;
-        match first_record(&self.bytes[place..]) {
-            Some(found) => {
+        match record_of(&self.bytes[place..], 99) {
+            Ok(found) => {
                 self.at = place + found.size;
                 Some(Ok(Record {
                     number: found.number,
@@ -112,9 +120,9 @@ impl<'a> Records<'a> {
                     to: (place + found.size) as u64,
                 }))
             }
-            None => Some(Err(WireFault {
-                place: place as u64,
-                kind: WireKind::BadTag,
+            Err((near, kind)) => Some(Err(WireFault {
+                place: (place + near) as u64,
+                kind,
             })),
         }
     }

@@ -1,7 +1,6 @@
-use Rattle.std.proofs.Common.{◌≡◌, ◌∙◌, ◌+◌, ◌-◌, ap, sym, Ok, Err, Some, None, ℕ, Result, rules, arith}
-use Rattle.wire_format.specs.WireRecord.{onward, group_in, group_rest, Stop}
+use Rattle.std.proofs.Common.{◌∙◌, ◌-◌, ap, sym, Ok, Err, Some, None, ℕ, arith}
+use Rattle.wire_format.specs.WireRecord.{onward, group_in, Stop}
 use Rattle.wire_format.specs.RecordViews.{raw_of}
-use Rattle.wire_format.specs.declared.fault.WireKind.{WireKind}
 use Rattle.wire_format.proofs.GroupLemmas.{group_none, group_open, group_ends, group_stops, group_goes_on, add_twice, group_done}
 use Rattle.wire_format.proofs.groups.+record.Goals as goal
 
