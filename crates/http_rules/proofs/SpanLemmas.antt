@@ -15,11 +15,11 @@ use Rattle.http_rules.specs.TemplateMatch.{slashed, IsPathSegment, Takes, EachTa
 abbrev NoSlash : List ℕ → Type 0
 NoSlash s = AllByRecursion (λ b. b ≢ 47) s
 
-literal_no_slash : (l : List ℕ) → AllByRecursion (λ b. IsTrue (is_literal_byte b)) l → NoSlash l
+pub literal_no_slash : (l : List ℕ) → AllByRecursion (λ b. IsTrue (is_literal_byte b)) l → NoSlash l
 literal_no_slash [] h = tt
 literal_no_slash (b ∷ l) h = ((λ e. let slash : is_literal_byte 47 ≡ true = subst (λ n. is_literal_byte n ≡ true) e h.0 in absurd (cc (slash))), literal_no_slash l h.1)
 
-literal_all : (l : List ℕ) → IsLiteral l → AllByRecursion (λ b. IsTrue (is_literal_byte b)) l
+pub literal_all : (l : List ℕ) → IsLiteral l → AllByRecursion (λ b. IsTrue (is_literal_byte b)) l
 literal_all [] h = absurd h
 literal_all (b ∷ l) h = h
 
@@ -46,7 +46,7 @@ segments_all : (ss : List Segment) → AreSegments ss → AllByRecursion IsSegme
 segments_all [] h = absurd h
 segments_all (s ∷ ss) h = h
 
-parts_segments : (ps : List Part) → AllByRecursion IsPart ps → AllByRecursion IsSegment (segments_of ps)
+pub parts_segments : (ps : List Part) → AllByRecursion IsPart ps → AllByRecursion IsSegment (segments_of ps)
 parts_segments [] a = tt
 parts_segments (segment s ∷ ps) a = (a.0, parts_segments ps a.1)
 parts_segments (variable path ∷ ps) a = (tt, parts_segments ps a.1)
