@@ -1,7 +1,9 @@
 //! Files in memory.
-ghost use Rattle.std.specs.Prelude.{◌≡◌, ◌≢◌, option_map};
+ghost use Rattle.std.specs.Prelude.{◌≡◌, ◌≢◌, ◌↔◌, ◌||◌, IfSome, IsTrue, is_none};
 ghost use Rattle.std.specs.Option.{option_copied};
+ghost use Rattle.gate_world.specs.Causes.{HasCause};
 ghost use Rattle.gate_world.specs.FixedOutside.{file_in};
+ghost use Rattle.gate_world.specs.NumberedCalls.{IsOneCall, IsUncalled, is_listed};
 ghost use Rattle.gate_world.specs.Sources.{ReadsWithin, ReadsAt};
 
 use crate::files::Files;
@@ -28,7 +30,10 @@ pub struct FixedFiles {
 
 impl FixedFiles {
     /// These files; `fails` has the numbers of the calls that fail, counted from 0.
-    pub fn new(files: List<NamedBytes>, fails: List<u64>) -> FixedFiles {
+    pub fn new(files: List<NamedBytes>, fails: List<u64>) -> FixedFiles
+        ensures told { ⟦<FixedFiles as Files>⟧.contents result ≡ file_in files }
+        ensures calls { IsUncalled result.calls fails }
+    {
         FixedFiles {
             files,
             calls: Numbered::new(fails),
@@ -68,7 +73,16 @@ impl Files for FixedFiles {
 
     ghost faults = { λ s. s.calls.faults };
 
-    fn read(&mut self, path: &str, from: u64, into: &mut [u8]) -> Read {
+    fn read(&mut self, path: &str, from: u64, into: &mut [u8]) -> Read
+        // What the trait says.
+        ensures bound { ReadsWithin result into.new }
+        ensures bytes { IfSome (file_in self.old.files path.now) (λ file. ReadsAt file from result into.new) }
+        ensures same { self.new.files ≡ self.old.files }
+        ensures cause { HasCause self.old.calls.faults self.new.calls.faults (result ≡ Read.Failed) }
+        // It fails exactly where the call's number is listed, or there is no such file.
+        ensures failed { (result ≡ Read.Failed) ↔ IsTrue (is_listed self.old.calls || is_none (file_in self.old.files path.now)) }
+        ensures counted { IsOneCall self.old.calls self.new.calls }
+    {
         if self.calls.is_next_failing() {
             self.calls.fail();
             return Read::Failed;

@@ -1,5 +1,6 @@
 //! Calls that are counted, so that some of them can be made to fail.
 ghost use Rattle.std.specs.Prelude.{◌≡◌, ◌≤◌};
+ghost use Rattle.gate_world.specs.NumberedCalls.{IsOneCall, IsUncalled, is_listed};
 ghost use Rattle.gate_world.specs.Causes.{Rose};
 
 use schema::List;
@@ -14,7 +15,9 @@ pub(crate) struct Numbered {
 
 impl Numbered {
     /// No call so far.
-    pub fn new(fails: List<u64>) -> Numbered {
+    pub fn new(fails: List<u64>) -> Numbered
+        ensures { IsUncalled result fails }
+    {
         Numbered {
             calls: 0,
             fails,
@@ -24,7 +27,9 @@ impl Numbered {
 
     /// Counts a call; true where its number is one of those that fail.
     pub fn is_next_failing(&mut self) -> bool
-        ensures { self.new.faults ≡ self.old.faults }
+        ensures listed { result ≡ is_listed self.old }
+        ensures counted { IsOneCall self.old self.new }
+        ensures faults { self.new.faults ≡ self.old.faults }
     {
         let call = self.calls;
         self.calls = call.saturating_add(1);
@@ -35,6 +40,7 @@ impl Numbered {
     pub fn fail(&mut self)
         ensures later { self.old.faults ≤ self.new.faults }
         ensures rose { Rose self.old.faults self.new.faults }
+        ensures calls { (self.new.calls ≡ self.old.calls) × (self.new.fails ≡ self.old.fails) }
     {
         self.faults = self.faults.saturating_add(1);
     }
