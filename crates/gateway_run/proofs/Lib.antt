@@ -1,1 +1,9 @@
+pub mod AnswerLemmas
+pub mod BindLemmas
+pub mod CamelLemmas
+pub mod DistinctLemmas
+pub mod FrontLemmas
+pub mod LinkLemmas
 pub mod MessageLemmas
+pub mod NameLemmas
+pub mod PathLemmas

@@ -1,5 +1,5 @@
 -- A message with one text at the number of a string is valid.
-use Rattle.std.proofs.Common.{◌≡◌, ◌==◌, ◌<◌, ◌∷◌, [], ℕ, List, Bool, true, false, cond, length, Option, Some, None, IsSome, nat_eq, arith, refl, sym, subst, ap, ◌∙◌}
+use Rattle.std.proofs.Common.{◌≡◌, ◌==◌, ◌<◌, ◌∷◌, [], ℕ, List, Bool, true, false, cond, Option, Some, None, IsSome, nat_eq, arith, refl, sym, subst, ap, ◌∙◌}
 use Rattle.std.proofs.lemmas.Bool.{eqb-true}
 use Rattle.std.proofs.lemmas.Bool.Decides.{nat_tests}
 use Rattle.std.specs.List.{AllByRecursion, IsDistinct, filter_map}
@@ -9,20 +9,18 @@ use Rattle.gateway_run.specs.LinkedApi.{IsLinked}
 use Rattle.gateway_run.specs.LinkedSet.{IsLinkedField, AreLinkedFields, input}
 use Rattle.gateway_run.specs.declared.api.Api.{Api}
 use Rattle.schema.specs.Types.{field_in, field_of, fields_of}
-use Rattle.schema.specs.Validity.{Inner, IsItem, IsStored, IsSlot, IsFieldSlot, IsMessage, IsValid, oneof_of, valid_within, is_default}
+use Rattle.schema.specs.Validity.{Inner, IsItem, IsStored, IsSlot, IsFieldSlot, IsValid, oneof_of, valid_within, is_default}
 use Rattle.schema.specs.Value.{RiseFrom, slots_of}
 use Rattle.schema.specs.declared.types.fields.Field.{Field}
 use Rattle.schema.specs.declared.types.fields.Kind.{Kind}
-use Rattle.schema.specs.declared.types.fields.Kind.TheVariants.{One as OneOf}
 use Rattle.schema.specs.declared.types.fields.Presence.{Presence}
 use Rattle.schema.specs.declared.types.fields.Presence.TheVariants.{Implicit}
-use Rattle.schema.specs.declared.types.fields.Scalar.TheVariants.{Text as TextOf}
 use Rattle.schema.specs.declared.types.fields.Shape.{Shape}
 use Rattle.schema.specs.declared.types.fields.Shape.TheVariants.{Single}
 use Rattle.schema.specs.declared.types.messages.Types.{Types}
 use Rattle.schema.specs.declared.value.Item.TheOpen as opened
 use Rattle.schema.specs.declared.value.Item.TheVariants.{outs-Text}
-use Rattle.schema.specs.declared.value.Item.{out-Item, Text}
+use Rattle.schema.specs.declared.value.Item.{Text}
 use Rattle.schema.specs.declared.value.Slot.TheVariants.{outs-One}
 use Rattle.schema.specs.declared.value.Slot.{out-Slot, One, Slot}
 use Rattle.schema.specs.declared.value.Value.{Value}
@@ -80,7 +78,7 @@ module _ (types : Types) (all : AreLinkedFields (fields_of types input)) (n : �
 
 -- a message with one text at the number of the variable is valid
 pub text_valid : (api : Api) (v : Value) (t : List ℕ) → IsLinked api → IsUtf8 t → slots_of v ≡ text_slots api.number t → IsValid api.types input v
-unfolding valid_within
+unfolding valid_within IsDistinct
 text_valid api v t l u h =
     let inner : Inner = valid_within 99 api.types in
     record {

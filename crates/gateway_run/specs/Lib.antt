@@ -1,3 +1,17 @@
+pub use Rattle.descriptor_set.specs.DescriptorFields
+pub use Rattle.descriptor_set.specs.SetForm
+pub use Rattle.gate_world.specs.Causes
+pub use Rattle.gate_world.specs.Sinks
+pub use Rattle.http_rules.specs.Template
+pub use Rattle.http_rules.specs.TemplateMatch
+pub use Rattle.http_rules.specs.PercentDecoding
+pub mod Commands
+pub mod CommandViews
+pub mod JsonNames
 pub mod LinkedSet
+pub mod ServedSet
 pub mod LinkedApi
 pub mod BoundMessage
+pub mod PathPieces
+pub mod RequestMeaning
+pub mod Outcomes

@@ -1,24 +1,7 @@
 //! A linked descriptor set: so far one method with one GET rule.
 
-use schema::{List, Text, TypeId, Types};
-
-/// A segment of a path template (google/api/http.proto).
-#[derive(Debug, Drop)]
-pub(crate) enum Segment {
-    /// These bytes.
-    Literal(Text),
-    /// One segment, which the variable takes.
-    Variable,
-}
-
-/// A path template with one variable of one segment.
-#[derive(Debug, Drop)]
-pub(crate) struct Template {
-    /// The segments, in order.
-    pub segments: List<Segment>,
-    /// The name of the field that the variable sets.
-    pub field: Text,
-}
+use http_rules::Template;
+use schema::{Text, TypeId, Types};
 
 /// What a descriptor set with one GET rule serves.
 #[derive(Debug, Drop)]
@@ -27,7 +10,7 @@ pub(crate) struct Api {
     pub types: Types,
     /// The gRPC path: a slash, the service's full name, a slash and the method's name.
     pub path: Text,
-    /// The template of the rule.
+    /// The template of the rule, which has one variable.
     pub template: Template,
     /// The number of the field that the variable sets.
     pub number: u32,

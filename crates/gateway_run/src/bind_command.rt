@@ -1,6 +1,12 @@
 //! The command `bind SET METHOD TARGET`.
-ghost use Rattle.std.specs.Prelude.{◌<◌, ◌^◌, length, IfOk};
+ghost use Rattle.std.specs.Prelude.{◌≡◌, ◌≤◌, ◌<◌, ◌^◌, ◌++◌, length, IfOk, IfSome, OnOk};
+ghost use Rattle.gate_world.specs.Causes.{Rose};
+ghost use Rattle.gateway_run.specs.CommandViews.{bind_view};
 ghost use Rattle.gateway_run.specs.LinkedApi.{IsLinked};
+ghost use Rattle.gateway_run.specs.Outcomes.{Gives, IsOutput, IsRefusedBy};
+ghost use Rattle.gateway_run.specs.RequestMeaning.{IsPrinted, IsRefusal, output};
+ghost use Rattle.gateway_run.specs.ServedSet.{Declares, ServesNothing};
+ghost use Rattle.hex.specs.Hex.{encode_lower};
 
 use crate::api::Api;
 use crate::binding::bind;
@@ -10,12 +16,13 @@ use crate::set_loading::read_whole;
 use crate::status::Stop;
 use descriptor_set::{SetFault, read_set};
 use gate_world::Files;
+use grpc_frames::frame;
 use schema::NoMemory;
 use std::alloc::Global;
 
 /// What the set of these bytes serves.
 fn linked(alloc: Global, bytes: &[u8]) -> Result<Api, Stop>
-    ensures { IfOk result IsLinked }
+    ensures gives { Gives (λ api. Declares bytes.now api × IsLinked api) (ServesNothing bytes.now) (λ _. ⊥) ⊥ result }
 {
     match read_set(alloc, bytes) {
         Ok(set) => match link(alloc, &set)? {
@@ -28,15 +35,10 @@ fn linked(alloc: Global, bytes: &[u8]) -> Result<Api, Stop>
     }
 }
 
-/// The head of a message with this many bytes: it is not compressed, and the length (gRPC's
-/// PROTOCOL-HTTP2, Length-Prefixed-Message).
-fn frame_head(len: u32) -> [u8; 5] {
-    let [a, b, c, d] = len.to_be_bytes();
-    [0, a, b, c, d]
-}
-
 /// Appends bytes in lower-case hexadecimal.
-fn put_hex(alloc: Global, out: &mut Vec<u8>, bytes: &[u8]) -> Result<(), NoMemory> {
+fn put_hex(alloc: Global, out: &mut Vec<u8>, bytes: &[u8]) -> Result<(), NoMemory>
+    ensures { OnOk result (out.new.items ≡ out.old.items ++ encode_lower bytes.now) }
+{
     let text = hex::encode(alloc, bytes)?;
     out.extend_from_slice(text.as_bytes())?;
     Ok(())
@@ -45,15 +47,31 @@ fn put_hex(alloc: Global, out: &mut Vec<u8>, bytes: &[u8]) -> Result<(), NoMemor
 /// The lines `path P` and `frame HEX`.
 fn lines(alloc: Global, path: &[u8], message: &[u8]) -> Result<Vec<u8>, NoMemory>
     requires { length message.now < 2 ^ 32 }
+    ensures { IfOk result (λ out. out.items ≡ output path.now message.now) }
 {
+    let mut framed = Vec::new(alloc);
+    frame(message, &mut framed)?;
     let mut out = Vec::new(alloc);
     out.extend_from_slice(b"path ")?;
     out.extend_from_slice(path)?;
     out.extend_from_slice(b"\nframe ")?;
-    put_hex(alloc, &mut out, &frame_head(message.len() as u32))?;
-    put_hex(alloc, &mut out, message)?;
+    put_hex(alloc, &mut out, framed.as_slice())?;
     out.extend_from_slice(b"\n")?;
     Ok(out)
+}
+
+/// What the command writes, for what a set serves.
+fn bound_output(alloc: Global, api: &Api, method: &[u8], target: &[u8]) -> Result<Vec<u8>, Stop>
+    requires { IsLinked api.now }
+    ensures { Gives (λ out. IsPrinted api.now method.now target.now out.items) ⊥ (IsRefusal api.now method.now target.now) ⊥ result }
+{
+    match bind(alloc, api, method, target) {
+        Ok(message) => {
+            let out = lines(alloc, api.path.as_str().as_bytes(), message.as_slice())?;
+            Ok(out)
+        }
+        Err(stop) => Err(stop),
+    }
 }
 
 /// What the command writes.
@@ -61,14 +79,19 @@ pub(crate) fn bind_output<F: Files>(
     alloc: Global,
     words: Bind<'_>,
     files: &mut F,
-) -> Result<Vec<u8>, Stop> {
+) -> Result<Vec<u8>, Stop>
+    ensures gives { Gives (λ out. IfSome (F.contents files.old words.entry.set.now) (λ file. IsOutput file (bind_view words.entry) out.items)) (IfSome (F.contents files.old words.entry.set.now) ServesNothing) (λ r. IfSome (F.contents files.old words.entry.set.now) (λ file. IsRefusedBy file (bind_view words.entry) r)) (Rose (F.faults files.old) (F.faults files.new)) result }
+    ensures later { F.faults files.old ≤ F.faults files.new }
+    ensures same { F.contents files.new ≡ F.contents files.old }
+{
     let bytes = read_whole(alloc, files, words.set)?;
-    let api = linked(alloc, bytes.as_slice())?;
-    let message = bind(
-        alloc,
-        &api,
-        words.method.as_bytes(),
-        words.target.as_bytes(),
-    )?;
-    Ok(lines(alloc, api.path.as_str().as_bytes(), message.as_slice())?)
+    match linked(alloc, bytes.as_slice()) {
+        Ok(api) => bound_output(
+            alloc,
+            &api,
+            words.method.as_bytes(),
+            words.target.as_bytes(),
+        ),
+        Err(stop) => Err(stop),
+    }
 }

@@ -1,14 +1,19 @@
 //! From a request's path to the bytes of its message.
-ghost use Rattle.std.specs.Prelude.{◌≡◌, ◌≤◌, length, IfOk};
-ghost use Rattle.gateway_run.specs.LinkedApi.{IsLinked};
+ghost use Rattle.std.specs.Prelude.{◌≡◌, true, IfOk, MatchOption};
+ghost use Rattle.std.specs.Str.{IsUtf8};
 ghost use Rattle.gateway_run.specs.BoundMessage.{text_slots};
+ghost use Rattle.gateway_run.specs.LinkedApi.{IsLinked};
+ghost use Rattle.gateway_run.specs.Outcomes.{Gives};
+ghost use Rattle.gateway_run.specs.RequestMeaning.{Captures, IsBound, IsMessageOf, IsRefusal, is_served};
+ghost use Rattle.http_rules.specs.PercentDecoding.{captured};
+ghost use Rattle.http_rules.specs.TemplateMatch.{AreSpansOf};
 ghost use Rattle.schema.specs.Value.{slots_of};
 
 use crate::api::{Api, INPUT};
 use crate::matching::variable_span;
 use crate::refusal::Refusal;
 use crate::status::Stop;
-use percent_encoding::percent_decode;
+use http_rules::capture;
 use schema::{Item, NoMemory, Slot, Text, Value};
 use std::alloc::Global;
 use std::str;
@@ -21,18 +26,20 @@ const MAX_TARGET_BYTES: usize = 16_384;
 const MAX_MESSAGE_BYTES: usize = 1_048_576;
 
 /// True where the request is of a form that is served: GET, and a path without a query.
-fn is_served(method: &[u8], target: &[u8]) -> bool {
+fn is_served(method: &[u8], target: &[u8]) -> bool
+    ensures { result ≡ is_served method.now target.now }
+{
     method == b"GET".as_slice()
         && target.len() <= MAX_TARGET_BYTES
         && target.starts_with(b"/")
         && !target.contains(&b'?')
 }
 
-/// The text that the raw bytes stand for (RFC 3986, section 2.1).
-fn decoded(alloc: Global, raw: &[u8]) -> Result<Option<Text>, NoMemory> {
-    let mut bytes = Vec::new(alloc);
-    percent_decode(raw).append_to(&mut bytes)?;
-    match str::from_utf8(bytes.as_slice()) {
+/// The text of the bytes.
+fn text_of(alloc: Global, bytes: &[u8]) -> Result<Option<Text>, NoMemory>
+    ensures { IfOk result (λ o. MatchOption o (IsUtf8 bytes.now → ⊥) (λ t. (t ≡ bytes.now) × IsUtf8 bytes.now)) }
+{
+    match str::from_utf8(bytes) {
         Ok(text) => Ok(Some(Text::copy_of(alloc, text)?)),
         Err(_) => Ok(None),
     }
@@ -50,24 +57,11 @@ fn message_of(alloc: Global, number: u32, text: Text) -> Result<Value, NoMemory>
     Ok(value)
 }
 
-/// The bytes of the message that a request means.
-pub(crate) fn bind(alloc: Global, api: &Api, method: &[u8], target: &[u8]) -> Result<Vec<u8>, Stop>
-    requires { IsLinked api.now }
-    ensures { IfOk result (λ bytes. length bytes.items ≤ MAX_MESSAGE_BYTES) }
-{
-    if !is_served(method, target) {
-        return Err(Stop::Refused(Refusal::NotBuilt));
-    }
-    match variable_span(api.template.segments.as_slice(), target) {
-        Some((from, to)) => message_bytes(alloc, api, &target[from..to]),
-        None => Err(Stop::Refused(Refusal::PathUnknown)),
-    }
-}
-
 /// The canonical bytes of the message that has the text in the variable's field.
 #[tactic(auto, using(crate::proofs::MessageLemmas::text_valid))]
 fn encoded(alloc: Global, api: &Api, text: Text) -> Result<Vec<u8>, NoMemory>
     requires { IsLinked api.now }
+    ensures { IfOk result (λ bytes. IsMessageOf api.now text bytes.items) }
 {
     let _utf8 = text.as_str();
     let value = message_of(alloc, api.number, text)?;
@@ -76,12 +70,20 @@ fn encoded(alloc: Global, api: &Api, text: Text) -> Result<Vec<u8>, NoMemory>
     Ok(bytes)
 }
 
-/// The bytes of the message whose variable has the raw bytes.
-fn message_bytes(alloc: Global, api: &Api, raw: &[u8]) -> Result<Vec<u8>, Stop>
-    requires { IsLinked api.now }
-    ensures { IfOk result (λ bytes. length bytes.items ≤ MAX_MESSAGE_BYTES) }
+/// The bytes of the message that has what the variable takes, decoded.
+fn message_bytes(
+    alloc: Global,
+    api: &Api,
+    method: &[u8],
+    target: &[u8],
+    text: &[u8],
+) -> Result<Vec<u8>, Stop>
+    requires linked { IsLinked api.now }
+    requires served { is_served method.now target.now ≡ true }
+    requires captures { Captures api.now target.now text.now }
+    ensures { Gives (λ bytes. IsBound api.now method.now target.now bytes.items) ⊥ (IsRefusal api.now method.now target.now) ⊥ result }
 {
-    match decoded(alloc, raw)? {
+    match text_of(alloc, text)? {
         Some(text) => {
             let bytes = encoded(alloc, api, text)?;
             if bytes.len() > MAX_MESSAGE_BYTES {
@@ -90,5 +92,22 @@ fn message_bytes(alloc: Global, api: &Api, raw: &[u8]) -> Result<Vec<u8>, Stop>
             Ok(bytes)
         }
         None => Err(Stop::Refused(Refusal::PathNotUtf8)),
+    }
+}
+
+/// The bytes of the message that a request means.
+pub(crate) fn bind(alloc: Global, api: &Api, method: &[u8], target: &[u8]) -> Result<Vec<u8>, Stop>
+    requires { IsLinked api.now }
+    ensures { Gives (λ bytes. IsBound api.now method.now target.now bytes.items) ⊥ (IsRefusal api.now method.now target.now) ⊥ result }
+{
+    if !is_served(method, target) {
+        return Err(Stop::Refused(Refusal::NotBuilt));
+    }
+    match variable_span(&api.template, target) {
+        Some((from, to)) => {
+            let text = capture(alloc, &api.template, 0, &target[from..to])?;
+            message_bytes(alloc, api, method, target, text.as_slice())
+        }
+        None => Err(Stop::Refused(Refusal::PathUnknown)),
     }
 }

@@ -1,4 +1,8 @@
 //! What the words behind the program's name mean.
+ghost use Rattle.std.specs.Prelude.{◌≡◌, map, option_map, string_bytes};
+ghost use Rattle.gateway_run.specs.Commands.{command_of, is_target, is_target_byte, is_token, is_token_byte};
+ghost use Rattle.std.specs.List.{list_all};
+ghost use Rattle.gateway_run.specs.CommandViews.{bind_view};
 
 /// `bind SET METHOD TARGET`.
 #[derive(Debug, Clone, Copy)]
@@ -12,7 +16,9 @@ pub(crate) struct Bind<'a> {
 }
 
 /// True where the byte may stand in a token (RFC 9110, section 5.6.2).
-fn is_token_byte(byte: u8) -> bool {
+fn is_token_byte(byte: u8) -> bool
+    ensures { result ≡ is_token_byte byte }
+{
     matches!(
         byte,
         b'0'..=b'9'
@@ -36,18 +42,55 @@ fn is_token_byte(byte: u8) -> bool {
     )
 }
 
+/// True where each byte may stand in a token.
+fn are_token_bytes(word: &[u8]) -> bool
+    ensures { result ≡ list_all is_token_byte word.now }
+{
+    for byte in word {
+        if !is_token_byte(*byte) {
+            return false;
+        }
+    }
+    true
+}
+
 /// True where the word is a token.
-fn is_token(word: &[u8]) -> bool {
-    !word.is_empty() && word.iter().all(|&byte| is_token_byte(byte))
+fn is_token(word: &[u8]) -> bool
+    ensures { result ≡ is_token word.now }
+{
+    !word.is_empty() && are_token_bytes(word)
+}
+
+/// True where the byte is visible ASCII.
+fn is_target_byte(byte: u8) -> bool
+    ensures { result ≡ is_target_byte byte }
+{
+    0x21 <= byte && byte <= 0x7e
+}
+
+/// True where each byte is visible ASCII.
+fn are_target_bytes(word: &[u8]) -> bool
+    ensures { result ≡ list_all is_target_byte word.now }
+{
+    for byte in word {
+        if !is_target_byte(*byte) {
+            return false;
+        }
+    }
+    true
 }
 
 /// True where the word has visible ASCII bytes alone, and fewer than 2^32.
-fn is_target(word: &[u8]) -> bool {
-    word.len() < 1 << 32 && word.iter().all(|&byte| 0x21 <= byte && byte <= 0x7e)
+fn is_target(word: &[u8]) -> bool
+    ensures { result ≡ is_target word.now }
+{
+    word.len() < 1 << 32 && are_target_bytes(word)
 }
 
 /// The command that the words are, if they are one.
-pub(crate) fn command_of(words: &[String]) -> Option<Bind<'_>> {
+pub(crate) fn command_of(words: &[String]) -> Option<Bind<'_>>
+    ensures { option_map bind_view result ≡ command_of (map string_bytes words.now) }
+{
     match words {
         [command, set, method, target] => {
             if command.as_str() == "bind"

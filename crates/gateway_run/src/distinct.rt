@@ -1,25 +1,26 @@
-//! Whether a name stands twice.
+//! Whether a key stands twice.
+ghost use Rattle.std.specs.Prelude.{◌↔◌, map, nat_eq, IfOk, IsTrue};
+ghost use Rattle.std.specs.List.{IsDistinct};
+ghost use Rattle.std.specs.Str.{bytes_eq};
 
 use schema::NoMemory;
+use std::alloc::Global;
+use std::collections::BTreeSet;
 
-/// True where two of the texts are equal. The texts are sorted.
-pub(crate) fn has_twice(mut texts: Vec<&[u8]>) -> Result<bool, NoMemory> {
-    texts.sort()?;
-    Ok(
-        texts
-            .as_slice()
-            .windows(2)
-            .any(|pair| pair.first() == pair.last()),
-    )
+/// True where no two of the texts are equal.
+pub(crate) fn are_distinct(alloc: Global, texts: Vec<&[u8]>) -> Result<bool, NoMemory>
+    ensures { IfOk result (λ b. IsTrue b ↔ IsDistinct bytes_eq (map (λ t. t.now) texts.entry.items)) }
+{
+    let len = texts.len();
+    let set = BTreeSet::from_iter(alloc, texts)?;
+    Ok(set.len() == len)
 }
 
-/// True where two of the numbers are equal. The numbers are sorted.
-pub(crate) fn has_number_twice(mut numbers: Vec<u32>) -> Result<bool, NoMemory> {
-    numbers.sort()?;
-    Ok(
-        numbers
-            .as_slice()
-            .windows(2)
-            .any(|pair| pair.first() == pair.last()),
-    )
+/// True where no two of the numbers are equal.
+pub(crate) fn are_distinct_numbers(alloc: Global, numbers: Vec<u32>) -> Result<bool, NoMemory>
+    ensures { IfOk result (λ b. IsTrue b ↔ IsDistinct nat_eq numbers.items) }
+{
+    let len = numbers.len();
+    let set = BTreeSet::from_iter(alloc, numbers)?;
+    Ok(set.len() == len)
 }

@@ -1,9 +1,10 @@
 //! The fields of a message whose fields are all single strings.
-ghost use Rattle.std.specs.Prelude.{◌<◌, IfOk, IfSome, IsSome};
-ghost use Rattle.gateway_run.specs.LinkedSet.{IsLinkedField, AreLinkedFields};
-ghost use Rattle.schema.specs.Types.{field_in};
+ghost use Rattle.std.specs.Prelude.{◌≡◌, ◌<◌, ◌↔◌, true, false, map, IfOk, IsTrue, MatchOption};
+ghost use Rattle.std.specs.List.{AllByRecursion, flat_map};
+ghost use Rattle.std.specs.Option.{option_copied};
+ghost use Rattle.gateway_run.specs.LinkedSet.{AreApart, AreFields, field_named, is_number, is_string, is_string_field, json_of, keys_of, linked_field, number_of};
 
-use crate::distinct::{has_number_twice, has_twice};
+use crate::distinct::{are_distinct, are_distinct_numbers};
 use crate::json_names::json_name_of;
 use descriptor_set::FieldInfo;
 use schema::{Field, Kind, List, NoMemory, Presence, Scalar, Shape, Text};
@@ -19,7 +20,9 @@ const TYPE_STRING: i32 = 9;
 const LABEL_OPTIONAL: i32 = 1;
 
 /// True where the field is a single string with implicit presence.
-fn is_string(field: &FieldInfo) -> bool {
+fn is_string(field: &FieldInfo) -> bool
+    ensures { result ≡ is_string field.now }
+{
     field.type_number == TYPE_STRING
         && field.label == LABEL_OPTIONAL
         && field.oneof_index.is_none()
@@ -28,7 +31,7 @@ fn is_string(field: &FieldInfo) -> bool {
 
 /// The field's number, where it is lawful.
 fn number_of(field: &FieldInfo) -> Option<u32>
-    ensures { IfSome result (λ n. 0 < n) }
+    ensures { MatchOption result (is_number field.now.number ≡ false) (λ n. (is_number field.now.number ≡ true) × (n ≡ number_of field.now.number) × (0 < n)) }
 {
     match u32::try_from(field.number) {
         Ok(number) => {
@@ -42,7 +45,9 @@ fn number_of(field: &FieldInfo) -> Option<u32>
 }
 
 /// The JSON name of a field: the declared one, or that which its name gives.
-fn json_of(alloc: Global, field: &FieldInfo) -> Result<Text, NoMemory> {
+fn json_of(alloc: Global, field: &FieldInfo) -> Result<Text, NoMemory>
+    ensures { IfOk result (λ json. json ≡ json_of field.now) }
+{
     match &field.json_name {
         Some(json) => Text::copy_of(alloc, json.as_str()),
         None => json_name_of(alloc, field.name.as_str()),
@@ -51,7 +56,7 @@ fn json_of(alloc: Global, field: &FieldInfo) -> Result<Text, NoMemory> {
 
 /// The field, where it is a single string with a lawful number.
 fn link_field(alloc: Global, field: &FieldInfo) -> Result<Option<Field>, NoMemory>
-    ensures { IfOk result (λ o. IfSome o IsLinkedField) }
+    ensures { IfOk result (λ o. MatchOption o (is_string_field field.now ≡ false) (λ f. (is_string_field field.now ≡ true) × (f ≡ linked_field field.now))) }
 {
     if !is_string(field) {
         return Ok(None);
@@ -72,7 +77,7 @@ fn link_field(alloc: Global, field: &FieldInfo) -> Result<Option<Field>, NoMemor
 
 /// The fields, where each is a single string.
 fn link_each(alloc: Global, fields: &[FieldInfo]) -> Result<Option<List<Field>>, NoMemory>
-    ensures { IfOk result (λ o. IfSome o AreLinkedFields) }
+    ensures { IfOk result (λ o. MatchOption o (AllByRecursion (λ f. is_string_field f ≡ true) fields.now → ⊥) (λ fs. AllByRecursion (λ f. is_string_field f ≡ true) fields.now × (fs ≡ map linked_field fields.now))) }
 {
     let mut linked = List::new(alloc);
     for field in fields {
@@ -85,7 +90,9 @@ fn link_each(alloc: Global, fields: &[FieldInfo]) -> Result<Option<List<Field>>,
 }
 
 /// The names and the JSON names of the fields: of a field whose two names are equal that name once.
-fn keys_of(alloc: Global, fields: &[Field]) -> Result<Vec<&[u8]>, NoMemory> {
+fn keys_of(alloc: Global, fields: &[Field]) -> Result<Vec<&[u8]>, NoMemory>
+    ensures { IfOk result (λ keys. map (λ k. k.now) keys.items ≡ flat_map keys_of fields.now) }
+{
     let mut keys = Vec::new(alloc);
     for field in fields {
         keys.push(field.name.as_str().as_bytes())?;
@@ -97,7 +104,9 @@ fn keys_of(alloc: Global, fields: &[Field]) -> Result<Vec<&[u8]>, NoMemory> {
 }
 
 /// The numbers of the fields.
-fn numbers_of(alloc: Global, fields: &[Field]) -> Result<Vec<u32>, NoMemory> {
+fn numbers_of(alloc: Global, fields: &[Field]) -> Result<Vec<u32>, NoMemory>
+    ensures { IfOk result (λ numbers. numbers.items ≡ map (λ f. f.number) fields.now) }
+{
     let mut numbers = Vec::new(alloc);
     for field in fields {
         numbers.push(field.number)?;
@@ -105,12 +114,14 @@ fn numbers_of(alloc: Global, fields: &[Field]) -> Result<Vec<u32>, NoMemory> {
     Ok(numbers)
 }
 
-/// True where two of the fields have one number, or share a name or a JSON name.
-fn are_apart(alloc: Global, fields: &[Field]) -> Result<bool, NoMemory> {
-    if has_number_twice(numbers_of(alloc, fields)?)? {
+/// True where no two of the fields have one number, and none shares a name or a JSON name with another.
+fn are_apart(alloc: Global, fields: &[Field]) -> Result<bool, NoMemory>
+    ensures { IfOk result (λ b. IsTrue b ↔ AreApart fields.now) }
+{
+    if !are_distinct_numbers(alloc, numbers_of(alloc, fields)?)? {
         return Ok(false);
     }
-    Ok(!has_twice(keys_of(alloc, fields)?)?)
+    are_distinct(alloc, keys_of(alloc, fields)?)
 }
 
 /// The fields of a message, where each is a single string, no two have one number, and no two share a
@@ -119,7 +130,7 @@ pub(crate) fn link_fields(
     alloc: Global,
     fields: &[FieldInfo],
 ) -> Result<Option<List<Field>>, NoMemory>
-    ensures { IfOk result (λ o. IfSome o AreLinkedFields) }
+    ensures { IfOk result (λ o. MatchOption o (AreFields fields.now → ⊥) (λ fs. AreFields fields.now × (fs ≡ map linked_field fields.now))) }
 {
     match link_each(alloc, fields)? {
         Some(linked) => {
@@ -132,13 +143,13 @@ pub(crate) fn link_fields(
     }
 }
 
-/// The number of the field with a name.
-pub(crate) fn number_named(fields: &[Field], name: &str) -> Option<u32>
-    ensures { IfSome result (λ n. IsSome (field_in fields.now n)) }
+/// The first field with a name.
+pub(crate) fn field_named<'a>(fields: &'a [Field], name: &str) -> Option<&'a Field>
+    ensures { option_copied result ≡ field_named fields.now name.now }
 {
     for field in fields {
         if field.name.as_str() == name {
-            return Some(field.number);
+            return Some(field);
         }
     }
     None

@@ -12,6 +12,7 @@ mod command;
 mod distinct;
 mod fields;
 mod json_names;
+mod laws;
 mod linking;
 mod matching;
 mod offline;
@@ -26,5 +27,6 @@ pub use gate_world::{
     Files, FixedFiles, FixedSink, FixedSource, NamedBytes, NoFields, Policy, Read, Sink, Source,
     WriteFailed, Wrote, write_all,
 };
+pub use laws::{one_answer_to_a_request, one_thing_is_served};
 pub use offline::run_offline;
 pub use status::Status;

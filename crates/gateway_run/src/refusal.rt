@@ -1,4 +1,6 @@
 //! Why a request is refused, in the order in which the causes are tried.
+ghost use Rattle.std.specs.Prelude.{◌≡◌};
+ghost use Rattle.gateway_run.specs.Outcomes.{refusal_line};
 
 /// Why a request is refused.
 #[derive(Debug, Clone, Copy, PartialEq, Eq)]
@@ -15,7 +17,9 @@ pub(crate) enum Refusal {
 
 impl Refusal {
     /// The line on standard error.
-    pub fn line(self) -> &'static str {
+    pub fn line(self) -> &'static str
+        ensures { result.now ≡ refusal_line self }
+    {
         match self {
             Refusal::NotBuilt => "refused 501 not built\n",
             Refusal::PathUnknown => "refused 404 path unknown\n",

@@ -1,28 +1,61 @@
 //! Reads the descriptor set's file.
+ghost use Rattle.std.specs.Prelude.{◌≡◌, ◌≤◌, ◌<◌, ◌++◌, ◌+◌, length, take, IfSome, OnOk};
+ghost use Rattle.gate_world.specs.Causes.{Rose};
+ghost use Rattle.gateway_run.specs.Outcomes.{Gives};
 
 use crate::status::Stop;
 use descriptor_set::MAX_SET_BYTES;
 use gate_world::{Files, Read};
+use schema::NoMemory;
 use std::alloc::Global;
 
 /// How many bytes are asked for at a time.
 const PIECE_BYTES: usize = 16_384;
+
+/// Appends a piece.
+fn append(bytes: &mut Vec<u8>, piece: &[u8]) -> Result<(), NoMemory>
+    ensures items { OnOk result (bytes.new.items ≡ bytes.old.items ++ piece.now) }
+    ensures len { OnOk result (length bytes.new.items ≡ length bytes.old.items + length piece.now) }
+{
+    bytes.extend_from_slice(piece)?;
+    Ok(())
+}
+
+/// How many bytes there are.
+fn len_of(bytes: &Vec<u8>) -> usize
+    ensures { result ≡ length bytes.now.items }
+{
+    bytes.as_slice().len()
+}
+
+/// How many bytes are asked for behind so many.
+fn room_behind(len: usize) -> usize
+    requires { len ≤ MAX_SET_BYTES }
+    ensures some { 0 < result }
+    ensures piece { result ≤ PIECE_BYTES }
+    ensures within { result + len ≤ 16777217 }
+{
+    PIECE_BYTES.min(MAX_SET_BYTES + 1 - len)
+}
 
 /// The bytes of a file: all of them, or the first 16,777,217.
 pub(crate) fn read_whole<F: Files>(
     alloc: Global,
     files: &mut F,
     path: &str,
-) -> Result<Vec<u8>, Stop> {
+) -> Result<Vec<u8>, Stop>
+    ensures gives { Gives (λ bytes. IfSome (F.contents files.old path.now) (λ file. bytes.items ≡ take 16777217 file)) ⊥ (λ _. ⊥) (Rose (F.faults files.old) (F.faults files.new)) result }
+    ensures later { F.faults files.old ≤ F.faults files.new }
+    ensures same { F.contents files.new ≡ F.contents files.old }
+{
     let mut bytes = Vec::new(alloc);
     let mut piece = [0u8; PIECE_BYTES];
-    while bytes.len() <= MAX_SET_BYTES {
-        let room = PIECE_BYTES.min(MAX_SET_BYTES + 1 - bytes.len());
-        match files.read(path, bytes.len() as u64, &mut piece[..room]) {
+    while len_of(&bytes) <= MAX_SET_BYTES {
+        let from = len_of(&bytes);
+        let room = room_behind(from);
+        match files.read(path, from as u64, &mut piece[..room]) {
             Read::Bytes(n) => {
-                if bytes.extend_from_slice(&piece[..n]).is_err() {
-                    return Err(Stop::NoMemory);
-                }
+                append(&mut bytes, &piece[..n])?;
             }
             Read::End => return Ok(bytes),
             Read::Failed => return Err(Stop::ReadFault),

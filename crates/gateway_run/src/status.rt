@@ -1,6 +1,7 @@
 //! How a command ends.
 ghost use Rattle.gateway_run.specs.declared.status.Stop.TheVariants.{NoMemory as no_memory};
 ghost use Rattle.std.specs.Prelude.{◌≡◌};
+ghost use Rattle.gateway_run.specs.Outcomes.{number_of, stop_line, stop_status};
 
 use crate::refusal::Refusal;
 use schema::NoMemory;
@@ -26,7 +27,9 @@ pub enum Status {
 
 impl Status {
     /// The number that the program ends with.
-    pub fn number(self) -> u8 {
+    pub fn number(self) -> u8
+        ensures { result ≡ number_of self }
+    {
         match self {
             Status::Done => 0,
             Status::Usage => 2,
@@ -58,7 +61,9 @@ pub(crate) enum Stop {
 
 impl Stop {
     /// The status.
-    pub fn status(self) -> Status {
+    pub fn status(self) -> Status
+        ensures { result ≡ stop_status self }
+    {
         match self {
             Stop::Usage => Status::Usage,
             Stop::Descriptors => Status::Descriptors,
@@ -70,7 +75,9 @@ impl Stop {
     }
 
     /// The line on standard error.
-    pub fn line(self) -> &'static str {
+    pub fn line(self) -> &'static str
+        ensures { result.now ≡ stop_line self }
+    {
         match self {
             Stop::Usage => "usage\n",
             Stop::Descriptors => "descriptors: not built\n",

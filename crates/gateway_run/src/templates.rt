@@ -1,146 +1,125 @@
-//! Path templates with one variable of one segment and no verb (google/api/http.proto, path template
+//! Path templates of literals and one variable of one segment (google/api/http.proto, path template
 //! syntax).
-ghost use Rattle.std.specs.Prelude.{◌≤◌, length};
+ghost use Rattle.std.specs.Prelude.{◌≡◌, ◌<◌, ◌↔◌, ◌∷◌, [], ℕ, List, true, length, slice_get, IfOk, IsTrue, MatchOption, Some};
+ghost use Rattle.std.specs.List.{AllByRecursion};
+ghost use Rattle.gateway_run.specs.ServedSet.{is_one_segment, IsPlainTemplate, IsTemplateOf};
+ghost use Rattle.http_rules.specs.PercentDecoding.{variable_segments};
+ghost use Rattle.http_rules.specs.Template.{IsTemplate, IsTemplateText, IsWithinLimits};
+ghost use Rattle.http_rules.specs.declared.template.Segment.TheVariants.{One as one};
+ghost use Rattle.http_rules.specs.declared.template.Template.{Template as TemplateOf};
 
-use crate::api::{Segment, Template};
-use schema::{List, NoMemory, Text};
+use http_rules::{Segment, Template, TemplateFault, Variable, parse_template};
+use schema::{NoMemory, Text};
 use std::alloc::Global;
-use std::str;
 
-/// The most segments that a template may have.
-const MAX_SEGMENTS: usize = 64;
-
-/// True where the byte may stand in a literal.
-fn is_literal_byte(byte: u8) -> bool {
-    matches!(
-        byte,
-        b'0'..=b'9'
-            | b'A'..=b'Z'
-            | b'a'..=b'z'
-            | b'-'
-            | b'.'
-            | b'_'
-            | b'~'
-            | b'!'
-            | b'$'
-            | b'&'
-            | b'\''
-            | b'('
-            | b')'
-            | b'+'
-            | b','
-            | b';'
-            | b'='
-            | b'@'
-    )
-}
-
-/// True where the text is a literal.
-fn is_literal(text: &[u8]) -> bool {
-    !text.is_empty() && text.iter().all(|&byte| is_literal_byte(byte))
-}
-
-/// True where the text is an identifier: a letter or an underscore, then these and digits.
-fn is_identifier(text: &[u8]) -> bool {
-    match text.first() {
-        Some(first) => {
-            !first.is_ascii_digit()
-                && text
-                    .iter()
-                    .all(|byte| byte.is_ascii_alphanumeric() || *byte == b'_')
-        }
-        None => false,
+/// True for a literal and for `*`.
+fn is_one_segment(segment: &Segment) -> bool
+    ensures { result ≡ is_one_segment segment.now }
+{
+    match segment {
+        Segment::Literal(_) => true,
+        Segment::One => true,
+        Segment::Rest => false,
     }
 }
 
-/// The name between the braces of a variable.
-fn variable_of(segment: &[u8]) -> Option<&[u8]> {
-    match segment {
-        [b'{', name @ .., b'}'] => {
-            if is_identifier(name) {
-                return Some(name);
-            }
-            None
+/// True where each segment is a literal or `*`.
+fn are_one_segments(segments: &[Segment]) -> bool
+    ensures { IsTrue result ↔ AllByRecursion (λ s. is_one_segment s ≡ true) segments.now }
+{
+    for segment in segments {
+        if !is_one_segment(segment) {
+            return false;
         }
+    }
+    true
+}
+
+/// True where the variable of a template that has one takes one segment, `*`.
+#[tactic(auto, using(crate::proofs::PathLemmas::wildcard_range))]
+fn takes_wildcard(template: &Template, variable: &Variable) -> bool
+    requires template { IsTemplate template.now }
+    requires one { template.now.variables ≡ variable.now ∷ [] }
+    ensures { IsTrue result ↔ (variable_segments template.now.segments (Some variable.now) ≡ one ∷ []) }
+{
+    match &template.segments.as_slice()[variable.from as usize..variable.to as usize] {
+        [Segment::One] => true,
+        _ => false,
+    }
+}
+
+/// The variable of a template that has one.
+fn only_variable(template: &Template) -> Option<&Variable>
+    ensures { MatchOption result ((v : Variable) → template.now.variables ≡ v ∷ [] → ⊥) (λ v. template.now.variables ≡ v.now ∷ []) }
+{
+    match template.variables.as_slice() {
+        [variable] => Some(variable),
         _ => None,
     }
 }
 
-/// Where the segment that begins at `from` ends: at the next slash, or at the end.
-pub(crate) fn segment_end(text: &[u8], from: usize) -> usize
-    requires { from ≤ length text.now }
-    ensures { (from ≤ result) × (result ≤ length text.now) }
+/// The field that a variable names without dots.
+fn only_name(variable: &Variable) -> Option<&Text>
+    ensures { MatchOption result ((name : List ℕ) → variable.now.path ≡ name ∷ [] → ⊥) (λ name. variable.now.path ≡ name.now ∷ []) }
 {
-    let (_, rest) = text.split_at(from);
-    match rest.iter().position(|&byte| byte == b'/') {
-        Some(len) => from + len,
-        None => text.len(),
+    match variable.path.as_slice() {
+        [name] => Some(name),
+        _ => None,
     }
 }
 
-/// The text, where it is one.
-fn text_of(alloc: Global, bytes: &[u8]) -> Result<Option<Text>, NoMemory> {
-    match str::from_utf8(bytes) {
-        Ok(text) => Ok(Some(Text::copy_of(alloc, text)?)),
-        Err(_) => Ok(None),
+/// True where the template has no verb, no `*` is written in its text, and no segment is `**`.
+fn is_plain(text: &[u8], template: &Template) -> bool
+    ensures { IsTrue result ↔ IsPlainTemplate text.now template.now }
+{
+    template.verb.is_none()
+        && !text.contains(&b'*')
+        && are_one_segments(template.segments.as_slice())
+}
+
+/// The name of the field that the variable of a template sets, where the template is of the form.
+pub(crate) fn name_of<'a>(text: &[u8], template: &'a Template) -> Option<&'a Text>
+    requires means { IsTemplateText text.now template.now }
+    requires within { IsWithinLimits template.now }
+    ensures { MatchOption result ((name : List ℕ) → IsTemplateOf text.now template.now name → ⊥) (λ name. IsTemplateOf text.now template.now name.now) }
+{
+    if !is_plain(text, template) {
+        return None;
+    }
+    match only_variable(template) {
+        Some(variable) => {
+            if !takes_wildcard(template, variable) {
+                return None;
+            }
+            only_name(variable)
+        }
+        None => None,
     }
 }
 
-/// One segment of a template.
+/// A template with the name of the field that its variable sets.
 #[derive(Drop)]
-enum Part {
-    /// A literal.
-    Literal(Text),
-    /// A variable, by its name.
-    Variable(Text),
+pub(crate) struct Named {
+    /// The template.
+    pub template: Template,
+    /// The name.
+    pub name: Text,
 }
 
-/// One segment of a template: a literal, or a variable of one identifier.
-fn part_of(alloc: Global, bytes: &[u8]) -> Result<Option<Part>, NoMemory> {
-    match variable_of(bytes) {
-        Some(name) => match text_of(alloc, name)? {
-            Some(name) => Ok(Some(Part::Variable(name))),
+/// The template of a text, where it is of the form.
+pub(crate) fn template_of(alloc: Global, text: &str) -> Result<Option<Named>, NoMemory>
+    ensures { IfOk result (λ o. MatchOption o ((t : TemplateOf) (name : List ℕ) → IsTemplateOf text.now t name → ⊥) (λ n. IsTemplateOf text.now n.template n.name)) }
+{
+    match parse_template(alloc, text) {
+        Ok(template) => match name_of(text.as_bytes(), &template) {
+            Some(name) => {
+                let name = Text::copy_of(alloc, name.as_str())?;
+                Ok(Some(Named { template, name }))
+            }
             None => Ok(None),
         },
-        None => {
-            if !is_literal(bytes) {
-                return Ok(None);
-            }
-            match text_of(alloc, bytes)? {
-                Some(literal) => Ok(Some(Part::Literal(literal))),
-                None => Ok(None),
-            }
-        }
-    }
-}
-
-/// The template of a text: at most 64 segments, of which one is a variable of one identifier and the
-/// others are literals.
-pub(crate) fn template_of(alloc: Global, text: &str) -> Result<Option<Template>, NoMemory> {
-    let bytes = text.as_bytes();
-    let mut segments = List::new(alloc);
-    let mut field = None;
-    let mut at = 0;
-    while at < bytes.len() {
-        if bytes[at] != b'/' || segments.len() == MAX_SEGMENTS {
-            return Ok(None);
-        }
-        let end = segment_end(bytes, at + 1);
-        match part_of(alloc, &bytes[at + 1..end])? {
-            Some(Part::Literal(literal)) => segments.push(Segment::Literal(literal))?,
-            Some(Part::Variable(name)) => {
-                if field.is_some() {
-                    return Ok(None);
-                }
-                segments.push(Segment::Variable)?;
-                field = Some(name);
-            }
-            None => return Ok(None),
-        }
-        at = end;
-    }
-    match field {
-        Some(field) => Ok(Some(Template { segments, field })),
-        None => Ok(None),
+        Err(TemplateFault::Syntax(_)) => Ok(None),
+        Err(TemplateFault::TooMany) => Ok(None),
+        Err(TemplateFault::NoMemory) => Err(NoMemory),
     }
 }

@@ -5,6 +5,8 @@
 mod help;
 mod std_files;
 mod std_streams;
+#[cfg(test)]
+mod tests;
 
 use gateway_run::{NoFields, Status, run_offline, write_all};
 use help::help_of;

@@ -1,0 +1,130 @@
+-- What a command over a file's front says of the file.
+use Rattle.std.proofs.Common.{◌≡◌, ◌≤◌, ◌<◌, ℕ, List, [], length, take, Option, Some, None, IfSome, Result, Ok, Err, OnOk, OnErr, refl, sym, ap, ◌∙◌, subst, arith, Vec, Bool, true, false, nat_le}
+use Rattle.std.proofs.lemmas.Bool.Decides.{nat_tests}
+use Rattle.std.proofs.lemmas.List.{append-nil, take_all, length-take-le}
+use Rattle.gate_world.specs.Sinks.{Gains, GainsPrefix}
+use Rattle.gateway_run.specs.Commands.{BindWords}
+use Rattle.gateway_run.specs.Outcomes.{AnswersTold, Gives, IsLine, IsOutput, IsRefusedBy, Ran, refusal_line, stop_line, stop_status}
+use Rattle.gateway_run.specs.RequestMeaning.{IsPrinted, IsRefusal}
+use Rattle.gateway_run.specs.ServedSet.{Declares, ServesNothing}
+use Rattle.gateway_run.specs.declared.api.Api.{Api}
+use Rattle.gateway_run.specs.declared.refusal.Refusal.{Refusal}
+use Rattle.gateway_run.specs.declared.status.Stop.{Stop}
+use Rattle.gateway_run.specs.declared.status.Stop.TheVariants as stop
+use Rattle.gateway_run.specs.declared.status.Status.TheVariants as status
+
+-- ---- a file longer than a set may be has a front that is
+
+front_short : (file bytes : List ℕ) → bytes ≡ take 16777217 file → length bytes ≤ 16777216 → bytes ≡ file
+front_short file bytes e s = pick (nat_le (length file) 16777217) (le_true (length file) 16777217) (le_false (length file) 16777217)
+  where
+    le_true : (m n : ℕ) → nat_le m n ≡ true → m ≤ n
+    le_true m n h = grind (arith, nat_tests, h)
+
+    le_false : (m n : ℕ) → nat_le m n ≡ false → n < m
+    le_false m n h = grind (arith, nat_tests, h)
+
+    pick : (b : Bool) → (b ≡ true → length file ≤ 16777217) → (b ≡ false → 16777217 < length file) → bytes ≡ file
+    pick true yes' no' = e ∙ take_all 16777217 file (yes' refl)
+    pick false yes' no' =
+        let long : 16777217 < length file = no' refl in
+        let size : length bytes ≡ 16777217 = ap length e ∙ length-take-le 16777217 file (omega (arith, long)) in
+        absurd (omega (arith, size, s))
+
+file_declares : (file bytes : List ℕ) (api : Api) → bytes ≡ take 16777217 file → Declares bytes api → Declares file api
+file_declares file bytes api e d = subst (λ z. Declares z api) (front_short file bytes e d.short) d
+
+front_declares : (file bytes : List ℕ) (api : Api) → bytes ≡ take 16777217 file → Declares file api → Declares bytes api
+front_declares file bytes api e d = subst (λ z. Declares z api) (sym (e ∙ take_all 16777217 file (let short = d.short in omega (arith, short)))) d
+
+-- ---- each way to end
+
+nothing_told : (told : Option (List ℕ)) (bytes : List ℕ) → IfSome told (λ file. bytes ≡ take 16777217 file) → ServesNothing bytes → IfSome told ServesNothing
+nothing_told None bytes f n = tt
+nothing_told (Some file) bytes f n = λ api d. n api (front_declares file bytes api f d)
+
+refused_told : (told : Option (List ℕ)) (bytes : List ℕ) (c : BindWords) (r : Refusal) (api : Api) → IfSome told (λ file. bytes ≡ take 16777217 file) → Declares bytes api → IsRefusal api c.method c.target r → IfSome told (λ file. IsRefusedBy file c r)
+refused_told None bytes c r api f d i = tt
+refused_told (Some file) bytes c r api f d i = record { api = api; declares = file_declares file bytes api f d; refused = i }
+
+output_told : (told : Option (List ℕ)) (bytes : List ℕ) (c : BindWords) (out : List ℕ) (api : Api) → IfSome told (λ file. bytes ≡ take 16777217 file) → Declares bytes api → IsPrinted api c.method c.target out → IfSome told (λ file. IsOutput file c out)
+output_told None bytes c out api f d p = tt
+output_told (Some file) bytes c out api f d p = record { api = api; declares = file_declares file bytes api f d; printed = p }
+
+-- a set that is not linked
+pub link_stops : {A B : Type 0} (G : A → Type 0) (H : B → Type 0) (R : Refusal → Type 0) (F : Type 0) (told : Option (List ℕ)) (bytes : List ℕ) → IfSome told (λ file. bytes ≡ take 16777217 file) → (e : Stop)
+    → Gives {A = A} G (ServesNothing bytes) (λ _. ⊥) ⊥ (Err e) → Gives {A = B} H (IfSome told ServesNothing) R F (Err e)
+link_stops G H R F told bytes f stop.Usage g = absurd g
+link_stops G H R F told bytes f stop.Descriptors g = nothing_told told bytes f g
+link_stops G H R F told bytes f stop.ReadFault g = absurd g
+link_stops G H R F told bytes f stop.WriteFault g = absurd g
+link_stops G H R F told bytes f stop.NoMemory g = tt
+link_stops G H R F told bytes f (stop.Refused r) g = absurd g
+
+-- what a request over what a set serves gives, said of the file
+pub bound_gives : {Z : Type 0} (F : Type 0) (told : Option (List ℕ)) (bytes : List ℕ) (c : BindWords) (api : Api) → IfSome told (λ file. bytes ≡ take 16777217 file) → Declares bytes api → (r : Result (Vec ℕ Z) Stop)
+    → Gives (λ (out : Vec ℕ Z). IsPrinted api c.method c.target out.items) ⊥ (IsRefusal api c.method c.target) ⊥ r
+    → Gives (λ (out : Vec ℕ Z). IfSome told (λ file. IsOutput file c out.items)) (IfSome told ServesNothing) (λ q. IfSome told (λ file. IsRefusedBy file c q)) F r
+bound_gives F told bytes c api f d (Ok out) g = output_told told bytes c out.items api f d g
+bound_gives F told bytes c api f d (Err stop.Usage) g = absurd g
+bound_gives F told bytes c api f d (Err stop.Descriptors) g = absurd g
+bound_gives F told bytes c api f d (Err stop.ReadFault) g = absurd g
+bound_gives F told bytes c api f d (Err stop.WriteFault) g = absurd g
+bound_gives F told bytes c api f d (Err stop.NoMemory) g = tt
+bound_gives F told bytes c api f d (Err (stop.Refused r)) g = refused_told told bytes c r api f d g
+
+-- ---- what a status says
+
+any_told : (told : Option (List ℕ)) → IfSome told (λ file. Unit {0})
+any_told None = tt
+any_told (Some file) = tt
+
+refusal_told : (told : Option (List ℕ)) (c : BindWords) (r : Refusal) → IfSome told (λ file. IsRefusedBy file c r) → IfSome told (λ file. (q : Refusal) × IsRefusedBy file c q × (refusal_line r ≡ refusal_line q))
+refusal_told None c r h = tt
+refusal_told (Some file) c r h = (r, h, refl)
+
+-- a command that stopped before it wrote
+pub stopped : {A : Type 0} (G : A → Type 0) (F : Type 0) (c : BindWords) (contents : List ℕ → Option (List ℕ)) (old new : Option (List ℕ)) (e : Stop)
+    → Gives {A = A} G (IfSome (contents c.set) ServesNothing) (λ r. IfSome (contents c.set) (λ file. IsRefusedBy file c r)) F (Err e) → AnswersTold (Some c) contents (stop_status e) (stop_line e) old new
+stopped G F c contents old new stop.Usage g = absurd g
+stopped G F c contents old new stop.Descriptors g = g
+stopped G F c contents old new stop.ReadFault g = any_told (contents c.set)
+stopped G F c contents old new stop.WriteFault g = absurd g
+stopped G F c contents old new stop.NoMemory g = any_told (contents c.set)
+stopped G F c contents old new (stop.Refused r) g = refusal_told (contents c.set) c r g
+
+-- its output was written whole, or in part
+pub wrote : (told : Option (List ℕ)) (c : BindWords) (out : List ℕ) (old new : Option (List ℕ)) → IfSome told (λ file. IsOutput file c out) → Gains old new out → IfSome told (λ file. (bytes : List ℕ) × IsOutput file c bytes × Gains old new bytes)
+wrote None c out old new h g = tt
+wrote (Some file) c out old new h g = (out, h, g)
+
+pub wrote_part : (told : Option (List ℕ)) (c : BindWords) (out : List ℕ) (old new : Option (List ℕ)) → IfSome told (λ file. IsOutput file c out) → GainsPrefix old new out → IfSome told (λ file. (bytes : List ℕ) × IsOutput file c bytes × GainsPrefix old new bytes)
+wrote_part None c out old new h g = tt
+wrote_part (Some file) c out old new h g = (out, h, g)
+
+-- ---- the line
+
+pub unwritten : (o : Option (List ℕ)) → Gains o o []
+unwritten None = tt
+unwritten (Some xs) = ap Some (sym (append-nil xs))
+
+prefix_all : (old new : Option (List ℕ)) (bytes : List ℕ) → Gains old new bytes → GainsPrefix old new bytes
+prefix_all old new bytes g = (length bytes, omega arith, subst (Gains old new) (sym (take_all (length bytes) bytes (omega arith))) g)
+
+stop_is : (e : Stop) → IsLine (stop_status e) (stop_line e)
+stop_is stop.Usage = refl
+stop_is stop.Descriptors = refl
+stop_is stop.ReadFault = refl
+stop_is stop.WriteFault = refl
+stop_is stop.NoMemory = refl
+stop_is (stop.Refused r) = (r, refl)
+
+-- a run whose line was written, or not
+pub told_line : {U E : Type 0} (e : Stop) (Failed : Type 0) (old new : Option (List ℕ)) (answers : List ℕ → Type 0) (r : Result U E) → OnOk r (Gains old new (stop_line e)) → OnErr r (GainsPrefix old new (stop_line e)) → OnErr r Failed
+    → answers (stop_line e) → Ran (stop_status e) Failed old new answers
+told_line e Failed old new answers (Ok u) g p f a = record { line = stop_line e; is = stop_is e; told = λ n. g; prefix = prefix_all old new (stop_line e) g; answer = a }
+told_line e Failed old new answers (Err x) g p f a = record { line = stop_line e; is = stop_is e; told = λ n. absurd (n f); prefix = p; answer = a }
+
+-- a run without a line
+pub no_line : (Failed : Type 0) (old : Option (List ℕ)) (answers : List ℕ → Type 0) → answers [] → Ran status.Done Failed old old answers
+no_line Failed old answers a = record { line = []; is = refl; told = λ n. unwritten old; prefix = prefix_all old old [] (unwritten old); answer = a }

@@ -1,0 +1,41 @@
+-- What the words behind the program's name mean.
+use Rattle.std.specs.Prelude.{ℕ, ◌^◌, ◌==◌, ◌&&◌, ◌||◌, Bool, List, [], ◌∷◌, length, codes, Option, Some, None, not, nat_le, nat_lt, if◌then◌else◌}
+use Rattle.std.specs.List.{list_all, list_any}
+use Rattle.std.specs.Str.{bytes_eq}
+
+-- a letter or a digit of ASCII
+abbrev pub is_alphanumeric : ℕ → Bool
+is_alphanumeric b = (nat_le 48 b && nat_le b 57) || ((nat_le 65 b && nat_le b 90) || (nat_le 97 b && nat_le b 122))
+
+-- a byte of a token (RFC 9110, section 5.6.2)
+abbrev pub is_token_byte : ℕ → Bool
+is_token_byte b = is_alphanumeric b || list_any (λ c. c == b) (codes "!#$%&'*+-.^_`|~")
+
+-- a token (RFC 9110, section 5.6.2)
+abbrev pub is_token : List ℕ → Bool
+is_token word = not (length word == 0) && list_all is_token_byte word
+
+-- a byte of a target: visible ASCII
+abbrev pub is_target_byte : ℕ → Bool
+is_target_byte b = nat_le 0x21 b && nat_le b 0x7e
+
+-- a target: such bytes, fewer than 2^32
+abbrev pub is_target : List ℕ → Bool
+is_target word = nat_lt (length word) (2 ^ 32) && list_all is_target_byte word
+
+-- `bind SET METHOD TARGET`
+pub record BindWords : Type 0 where
+  pub set : List ℕ
+  pub method : List ℕ
+  pub target : List ℕ
+
+-- the command that four words are
+abbrev pub bind_words : List ℕ → List ℕ → List ℕ → List ℕ → Option BindWords
+bind_words name set method target =
+    if bytes_eq name (codes "bind") && (is_token method && is_target target)
+    then Some (record { set = set; method = method; target = target }) else None
+
+-- the command that words are: four, the first is `bind`, METHOD is a token and TARGET a target
+abbrev pub command_of : List (List ℕ) → Option BindWords
+command_of (name ∷ set ∷ method ∷ target ∷ []) = bind_words name set method target
+command_of _ = None

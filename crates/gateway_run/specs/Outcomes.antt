@@ -1,0 +1,121 @@
+-- How a run ends, and what it leaves.
+use Rattle.std.specs.Prelude.{◌≡◌, ℕ, List, [], codes, Option, Some, None, IfSome, Result, Ok, Err}
+use Rattle.gate_world.specs.Sinks.{Gains, GainsPrefix}
+use Rattle.gateway_run.specs.Commands.{BindWords}
+use Rattle.gateway_run.specs.RequestMeaning.{IsPrinted, IsRefusal}
+use Rattle.gateway_run.specs.ServedSet.{Declares, ServesNothing}
+use Rattle.gateway_run.specs.declared.api.Api.{Api}
+use Rattle.gateway_run.specs.declared.refusal.Refusal.{Refusal}
+use Rattle.gateway_run.specs.declared.refusal.Refusal.TheVariants as refusals
+use Rattle.gateway_run.specs.declared.status.Status.{Status}
+use Rattle.gateway_run.specs.declared.status.Status.TheVariants as status
+use Rattle.gateway_run.specs.declared.status.Stop.{Stop}
+use Rattle.gateway_run.specs.declared.status.Stop.TheVariants as stop
+
+-- what a command prints over a set's file
+pub record IsOutput (file : List ℕ) (c : BindWords) (out : List ℕ) : Type 0 where
+  pub api : Api
+  pub declares : Declares file api
+  pub printed : IsPrinted api c.method c.target out
+
+-- its request is refused
+pub record IsRefusedBy (file : List ℕ) (c : BindWords) (r : Refusal) : Type 0 where
+  pub api : Api
+  pub declares : Declares file api
+  pub refused : IsRefusal api c.method c.target r
+
+-- the line of a refusal
+abbrev pub refusal_line : Refusal → List ℕ
+refusal_line refusals.NotBuilt = codes "refused 501 not built\n"
+refusal_line refusals.PathUnknown = codes "refused 404 path unknown\n"
+refusal_line refusals.PathNotUtf8 = codes "refused 400 path variable 1: not UTF-8\n"
+refusal_line refusals.MessageLong = codes "refused 429 message too long\n"
+
+-- the line of a status: that of a refusal where a request is refused, none with Done
+abbrev pub IsLine : Status → List ℕ → Type 0
+IsLine status.Done line = line ≡ []
+IsLine status.Usage line = line ≡ codes "usage\n"
+IsLine status.Descriptors line = line ≡ codes "descriptors: not built\n"
+IsLine status.ReadFault line = line ≡ codes "read fault\n"
+IsLine status.WriteFault line = line ≡ codes "write fault\n"
+IsLine status.NoMemory line = line ≡ codes "out of memory\n"
+IsLine status.Refused line = (r : Refusal) × (line ≡ refusal_line r)
+
+-- the number that the program ends with
+abbrev pub number_of : Status → ℕ
+number_of status.Done = 0
+number_of status.Usage = 2
+number_of status.Descriptors = 3
+number_of status.ReadFault = 4
+number_of status.WriteFault = 5
+number_of status.NoMemory = 7
+number_of status.Refused = 9
+
+-- the status of a command that stopped
+abbrev pub stop_status : Stop → Status
+stop_status stop.Usage = status.Usage
+stop_status stop.Descriptors = status.Descriptors
+stop_status stop.ReadFault = status.ReadFault
+stop_status stop.WriteFault = status.WriteFault
+stop_status stop.NoMemory = status.NoMemory
+stop_status (stop.Refused r) = status.Refused
+
+-- its line
+abbrev pub stop_line : Stop → List ℕ
+stop_line stop.Usage = codes "usage\n"
+stop_line stop.Descriptors = codes "descriptors: not built\n"
+stop_line stop.ReadFault = codes "read fault\n"
+stop_line stop.WriteFault = codes "write fault\n"
+stop_line stop.NoMemory = codes "out of memory\n"
+stop_line (stop.Refused r) = refusal_line r
+
+-- what a status says of the set's file and the request: with Done the output was written whole, with
+-- WriteFault a part of it; Descriptors where nothing is served; Refused where the request is, and the line
+-- is that of the refusal
+abbrev pub Answers : List ℕ → BindWords → Status → List ℕ → Option (List ℕ) → Option (List ℕ) → Type 0
+Answers file c status.Done line old new = (bytes : List ℕ) × IsOutput file c bytes × Gains old new bytes
+Answers file c status.Usage line old new = ⊥
+Answers file c status.Descriptors line old new = ServesNothing file
+Answers file c status.ReadFault line old new = Unit {0}
+Answers file c status.WriteFault line old new = (bytes : List ℕ) × IsOutput file c bytes × GainsPrefix old new bytes
+Answers file c status.NoMemory line old new = Unit {0}
+Answers file c status.Refused line old new = (r : Refusal) × IsRefusedBy file c r × (line ≡ refusal_line r)
+
+-- the answer to a command over what its file is told to be
+abbrev pub AnswersTold : Option BindWords → (List ℕ → Option (List ℕ)) → Status → List ℕ → Option (List ℕ) → Option (List ℕ) → Type 0
+AnswersTold None contents s line old new = Unit {0}
+AnswersTold (Some c) contents s line old new = IfSome (contents c.set) (λ file. Answers file c s line old new)
+
+-- a run that ended so: its line stands on `err`, where its count of faults did not rise, and the status
+-- answers the command
+pub record Ran (s : Status) (Failed : Type 0) (err_old err_new : Option (List ℕ)) (answers : List ℕ → Type 0) : Type 0 where
+  pub line : List ℕ
+  pub is : IsLine s line
+  pub told : (Failed → ⊥) → Gains err_old err_new line
+  pub prefix : GainsPrefix err_old err_new line
+  pub answer : answers line
+
+-- only Done and WriteFault write output
+abbrev pub Writes : Status → Type 0
+Writes status.Done = Unit {0}
+Writes status.WriteFault = Unit {0}
+Writes _ = ⊥
+
+-- what a step of a command gives: a good value, or why the command stops there
+abbrev pub Gives : {A : Type 0} → (A → Type 0) → Type 0 → (Refusal → Type 0) → Type 0 → Result A Stop → Type 0
+Gives Good Nothing Refused Failed (Ok x) = Good x
+Gives Good Nothing Refused Failed (Err stop.Usage) = ⊥
+Gives Good Nothing Refused Failed (Err stop.Descriptors) = Nothing
+Gives Good Nothing Refused Failed (Err stop.ReadFault) = Failed
+Gives Good Nothing Refused Failed (Err stop.WriteFault) = ⊥
+Gives Good Nothing Refused Failed (Err stop.NoMemory) = Unit {0}
+Gives Good Nothing Refused Failed (Err (stop.Refused r)) = Refused r
+
+-- the status and the line of a command that ran
+abbrev pub status_of : {A : Type 0} → Result A Stop → Status
+status_of (Ok x) = status.Done
+status_of (Err e) = stop_status e
+
+abbrev pub line_of : {A : Type 0} → Result A Stop → List ℕ
+line_of (Ok x) = []
+line_of (Err e) = stop_line e

@@ -1,0 +1,79 @@
+-- What a request means for a set with one GET rule: the message of its path, or why it is refused.
+use Rattle.std.specs.Prelude.{◌≡◌, ◌≤◌, ◌<◌, ◌-◌, ◌++◌, ◌&&◌, ℕ, Bool, true, false, List, [], ◌∷◌, length, take, drop, codes, nat_eq, nat_le, not}
+use Rattle.std.specs.List.{list_any, starts_with}
+use Rattle.std.specs.Str.{IsUtf8, bytes_eq}
+use Rattle.gateway_run.specs.BoundMessage.{text_slots}
+use Rattle.gateway_run.specs.LinkedSet.{input}
+use Rattle.gateway_run.specs.declared.api.Api.{Api}
+use Rattle.gateway_run.specs.declared.refusal.Refusal.{Refusal}
+use Rattle.gateway_run.specs.declared.refusal.Refusal.TheVariants.{NotBuilt, PathUnknown, PathNotUtf8, MessageLong}
+use Rattle.grpc_frames.specs.LengthPrefixed.{length_prefixed}
+use Rattle.hex.specs.Hex.{encode_lower}
+use Rattle.http_rules.specs.PercentDecoding.{captured}
+use Rattle.http_rules.specs.TemplateMatch.{Matches, Fits}
+use Rattle.schema.specs.Value.{slots_of}
+use Rattle.schema.specs.declared.value.Value.{Value}
+use Rattle.wire_format.specs.CanonicalBytes.{canonical_bytes}
+
+-- a request that is served so far: GET, and a path of at most 16,384 bytes without a query
+abbrev pub is_served : List ℕ → List ℕ → Bool
+is_served method target =
+    bytes_eq method (codes "GET")
+    && (nat_le (length target) 16384 && (starts_with nat_eq target (47 ∷ []) && not (list_any (λ b. nat_eq b 63) target)))
+
+-- the bytes between two offsets
+abbrev pub between : ℕ × ℕ → List ℕ → List ℕ
+between span bytes = take (span.1 - span.0) (drop span.0 bytes)
+
+-- the template matches the path, and its variable takes this, decoded
+pub record Captures (api : Api) (target text : List ℕ) : Type 0 where
+  pub span : ℕ × ℕ
+  pub matches : Matches api.template target (span ∷ [])
+  pub text_is : text ≡ captured api.template 0 (between span target)
+
+-- the canonical bytes of the message that has this text in the variable's field
+pub record IsMessageOf (api : Api) (text message : List ℕ) : Type 0 where
+  pub value : Value
+  pub slots : slots_of value ≡ text_slots api.number text
+  pub bytes : message ≡ canonical_bytes api.types input value
+
+-- the message that a request means, of at most 1,048,576 bytes
+pub record IsBound (api : Api) (method target message : List ℕ) : Type 0 where
+  pub served : is_served method target ≡ true
+  pub text : List ℕ
+  pub captures : Captures api target text
+  pub utf8 : IsUtf8 text
+  pub is : IsMessageOf api text message
+  pub short : length message ≤ 1048576
+
+-- the variable's value is not UTF-8
+pub record IsNotUtf8 (api : Api) (target : List ℕ) : Type 0 where
+  pub text : List ℕ
+  pub captures : Captures api target text
+  pub not_utf8 : IsUtf8 text → ⊥
+
+-- the message is longer than 1,048,576 bytes
+pub record IsLong (api : Api) (target : List ℕ) : Type 0 where
+  pub text : List ℕ
+  pub captures : Captures api target text
+  pub utf8 : IsUtf8 text
+  pub message : List ℕ
+  pub is : IsMessageOf api text message
+  pub long : 1048576 < length message
+
+-- why a request is refused
+abbrev pub IsRefusal : Api → List ℕ → List ℕ → Refusal → Type 0
+IsRefusal api method target NotBuilt = is_served method target ≡ false
+IsRefusal api method target PathUnknown = (is_served method target ≡ true) × (Fits api.template target → ⊥)
+IsRefusal api method target PathNotUtf8 = (is_served method target ≡ true) × IsNotUtf8 api target
+IsRefusal api method target MessageLong = (is_served method target ≡ true) × IsLong api target
+
+-- what `bind` prints: the path, and the length-prefixed message in lower-case hexadecimal
+abbrev pub output : List ℕ → List ℕ → List ℕ
+output path message = codes "path " ++ (path ++ (codes "\nframe " ++ (encode_lower (length_prefixed message) ++ codes "\n")))
+
+-- what `bind` prints of a request over what a set serves
+pub record IsPrinted (api : Api) (method target out : List ℕ) : Type 0 where
+  pub message : List ℕ
+  pub bound : IsBound api method target message
+  pub lines : out ≡ output api.path message

@@ -1,0 +1,21 @@
+//! Laws of the definitions that the contract of `run_offline` cites. Each is the contract of an empty
+//! function.
+ghost use Rattle.std.specs.Prelude.{◌≡◌, ℕ, List};
+ghost use Rattle.gateway_run.specs.Commands.{BindWords};
+ghost use Rattle.gateway_run.specs.Outcomes.{IsOutput, IsRefusedBy};
+ghost use Rattle.gateway_run.specs.ServedSet.{Declares};
+ghost use Rattle.gateway_run.specs.declared.api.Api.{Api};
+ghost use Rattle.gateway_run.specs.declared.refusal.Refusal.{Refusal};
+
+/// The bytes of a set serve one thing at most.
+pub fn one_thing_is_served()
+    ensures { (bytes : List ℕ) (a b : Api) → Declares bytes a → Declares bytes b → a ≡ b }
+{}
+
+/// A request that is refused prints nothing, is refused for one cause, and one that is not prints one
+/// output: so each status is given exactly where its cause stands.
+pub fn one_answer_to_a_request()
+    ensures apart { (file out : List ℕ) (c : BindWords) (r : Refusal) → IsRefusedBy file c r → IsOutput file c out → ⊥ }
+    ensures one_cause { (file : List ℕ) (c : BindWords) (q r : Refusal) → IsRefusedBy file c q → IsRefusedBy file c r → q ≡ r }
+    ensures one_output { (file out other : List ℕ) (c : BindWords) → IsOutput file c out → IsOutput file c other → out ≡ other }
+{}
