@@ -1,0 +1,54 @@
+-- Worked examples (RFC 7541, appendix C), computed by the definitions.
+use Rattle.std.specs.Prelude.{◌≡◌, [], ◌∷◌, ◌++◌, codes, Some, None, Ok, Err}
+use Rattle.hpack_codec.specs.PrefixInteger.{integer_in, integer_bytes}
+use Rattle.hpack_codec.specs.Huffman.{huffman_text}
+use Rattle.hpack_codec.specs.DynamicTable.{first_table}
+use Rattle.hpack_codec.specs.HeaderBlock.{HeaderBlock, header_block}
+use Rattle.hpack_codec.specs.declared.fault.BlockFault.TheVariants.{Bad}
+
+-- integers (RFC 7541, appendix C.1)
+pub record IntegerExamplesHold : Type 0 where
+  pub ten : integer_in 31 (0x0a ∷ []) ≡ Some (10, 1)
+  pub thirteen_hundred : integer_in 31 (0x1f ∷ 0x9a ∷ 0x0a ∷ []) ≡ Some (1337, 3)
+  pub forty_two : integer_in 255 (0x2a ∷ []) ≡ Some (42, 1)
+  pub largest : integer_in 127 (0x7f ∷ 0x80 ∷ 0xff ∷ 0xff ∷ 0xff ∷ 0x0f ∷ []) ≡ Some (4294967295, 6)
+  pub too_large : integer_in 127 (0x7f ∷ 0x81 ∷ 0xff ∷ 0xff ∷ 0xff ∷ 0x0f ∷ []) ≡ None
+  pub too_long : integer_in 127 (0x7f ∷ 0x80 ∷ 0x80 ∷ 0x80 ∷ 0x80 ∷ 0x80 ∷ 0x00 ∷ []) ≡ None
+  pub cut : integer_in 127 (0x7f ∷ 0x80 ∷ []) ≡ None
+  pub written : integer_bytes 0 31 1337 ≡ 0x1f ∷ 0x9a ∷ 0x0a ∷ []
+
+-- Huffman-coded texts, and rests that are none
+pub record HuffmanExamplesHold : Type 0 where
+  pub address : huffman_text (0xf1 ∷ 0xe3 ∷ 0xc2 ∷ 0xe5 ∷ 0xf2 ∷ 0x3a ∷ 0x6b ∷ 0xa0 ∷ 0xab ∷ 0x90 ∷ 0xf4 ∷ 0xff ∷ []) ≡ Some (codes "www.example.com")
+  pub no_cache : huffman_text (0xa8 ∷ 0xeb ∷ 0x10 ∷ 0x64 ∷ 0x9c ∷ 0xbf ∷ []) ≡ Some (codes "no-cache")
+  pub seven_ones : huffman_text (0x00 ∷ 0x01 ∷ 0xfc ∷ 0x7f ∷ []) ≡ Some (codes "000!")
+  pub empty : huffman_text [] ≡ Some []
+  pub eight_ones : huffman_text (0xff ∷ []) ≡ None
+  pub zero_in_rest : huffman_text (0x1e ∷ []) ≡ None
+  pub three_ones : huffman_text (0x1f ∷ []) ≡ Some (codes "a")
+  pub end_of_string : huffman_text (0xff ∷ 0xff ∷ 0xff ∷ 0xff ∷ []) ≡ None
+
+-- the first request of three on one connection (RFC 7541, appendix C.4.1), and the table after it
+abbrev pub first_request : HeaderBlock
+first_request = record {
+  fields = (codes ":method", codes "GET") ∷ (codes ":scheme", codes "http") ∷ (codes ":path", codes "/") ∷ (codes ":authority", codes "www.example.com") ∷ [];
+  table = record { fields = (codes ":authority", codes "www.example.com") ∷ []; max_size = 4096 };
+}
+
+-- the second request (RFC 7541, appendix C.4.2)
+abbrev pub second_request : HeaderBlock
+second_request = record {
+  fields = first_request.fields ++ (codes "cache-control", codes "no-cache") ∷ [];
+  table = record { fields = (codes "cache-control", codes "no-cache") ∷ (codes ":authority", codes "www.example.com") ∷ []; max_size = 4096 };
+}
+
+-- blocks, and what is wrong with some
+pub record BlockExamplesHold : Type 0 where
+  pub first : header_block first_table (0x82 ∷ 0x86 ∷ 0x84 ∷ 0x41 ∷ 0x8c ∷ 0xf1 ∷ 0xe3 ∷ 0xc2 ∷ 0xe5 ∷ 0xf2 ∷ 0x3a ∷ 0x6b ∷ 0xa0 ∷ 0xab ∷ 0x90 ∷ 0xf4 ∷ 0xff ∷ []) ≡ Ok first_request
+  pub second : header_block first_request.table (0x82 ∷ 0x86 ∷ 0x84 ∷ 0xbe ∷ 0x58 ∷ 0x86 ∷ 0xa8 ∷ 0xeb ∷ 0x10 ∷ 0x64 ∷ 0x9c ∷ 0xbf ∷ []) ≡ Ok second_request
+  pub index_zero : header_block first_table (0x82 ∷ 0x80 ∷ []) ≡ Err (Bad 1)
+  pub index_past : header_block first_table (0xbe ∷ []) ≡ Err (Bad 0)
+  pub late_size : header_block first_table (0x20 ∷ 0x82 ∷ 0x20 ∷ []) ≡ Err (Bad 2)
+  pub large_size : header_block first_table (0x3f ∷ 0xe2 ∷ 0x1f ∷ []) ≡ Err (Bad 0)
+  pub evicted : header_block first_request.table (0x20 ∷ 0xbe ∷ []) ≡ Err (Bad 1)
+  pub sizes : header_block first_request.table (0x20 ∷ 0x3f ∷ 0xe1 ∷ 0x1f ∷ []) ≡ Ok (record { fields = []; table = first_table })

@@ -1,0 +1,92 @@
+//! Decoding the header blocks of a connection (RFC 7541, section 3).
+ghost use Rattle.std.specs.Prelude.{◌≡◌, ◌≤◌, [], vec_capacity, IfOk};
+ghost use Rattle.hpack_codec.specs.DecoderState.{first_decoder, next_block, IsDecoded};
+ghost use Rattle.hpack_codec.specs.BlockReads.{IsBlockRead};
+ghost use Rattle.hpack_codec.specs.HeaderBlock.{header_block};
+
+use crate::dynamic_table::DynamicTable;
+use crate::fault::{BlockFault, ReadFault};
+use crate::fields::{Fields, MAX_LIST_SIZE};
+use crate::representation::read_representation;
+use schema::NoMemory;
+use std::alloc::Global;
+use std::marker::Model;
+
+/// Room for the bytes of the largest field, and for two that a Huffman-coded string may have beyond
+/// it before it is found too long.
+const SCRATCH_BYTES: usize = MAX_LIST_SIZE + 2;
+
+/// Decodes the header blocks of one direction of a connection, in their order, over one dynamic
+/// table. After a refusal the table is lost, and it answers the same to every later block.
+#[derive(Drop)]
+pub struct Decoder {
+    table: DynamicTable,
+    scratch: Vec<u8>,
+    refused: Option<BlockFault>,
+}
+
+impl Model for Decoder {
+    ghost use Rattle.std.specs.Prelude.{◌≤◌, vec_capacity};
+    ghost use Rattle.hpack_codec.specs.DecoderState.{DecoderState};
+
+    ghost Value = { DecoderState };
+
+    ghost view = { λ d. record { table = d.table; refused = d.refused } };
+
+    ghost invariant = { λ d. 65538 ≤ vec_capacity d.scratch };
+}
+
+impl Decoder {
+    /// A decoder of a new connection, with an empty table of 4,096 bytes and all room reserved.
+    pub fn new(alloc: Global) -> Result<Decoder, NoMemory>
+        ensures { IfOk result (λ d. d ≡ first_decoder) }
+    {
+        Ok(Decoder {
+            table: DynamicTable::new(alloc)?,
+            scratch: Vec::with_capacity(alloc, SCRATCH_BYTES)?,
+            refused: None,
+        })
+    }
+
+    /// Replaces the fields by those of the next block. After a refusal there are none. Takes no
+    /// memory.
+    pub fn decode(&mut self, block: &[u8], fields: &mut Fields) -> Result<(), BlockFault>
+        ensures { IsDecoded (next_block self.old.refused self.old.table block.now) result fields.new self.new }
+    {
+        fields.clear();
+        if let Some(fault) = self.refused {
+            return Err(fault);
+        }
+        match read_block(block, &mut self.table, &mut self.scratch, fields) {
+            Ok(()) => Ok(()),
+            Err(fault) => {
+                fields.clear();
+                self.refused = Some(fault);
+                Err(fault)
+            }
+        }
+    }
+}
+
+/// Appends the fields of a block, in order, and makes the table that after it.
+fn read_block(
+    block: &[u8],
+    table: &mut DynamicTable,
+    scratch: &mut Vec<u8>,
+    fields: &mut Fields,
+) -> Result<(), BlockFault>
+    requires fields { fields.old ≡ [] }
+    requires capacity { 65538 ≤ vec_capacity scratch.old }
+    ensures read { IsBlockRead (header_block table.old block.now) result fields.new table.new }
+    ensures capacity { 65538 ≤ vec_capacity scratch.new }
+{
+    let mut offset = 0;
+    while offset < block.len() {
+        match read_representation(&block[offset..], table, scratch, fields) {
+            Ok(len) => offset += len,
+            Err(ReadFault::Bad) => return Err(BlockFault::Bad(offset as u64)),
+            Err(ReadFault::TooLong) => return Err(BlockFault::TooLong),
+        }
+    }
+    Ok(())
+}
