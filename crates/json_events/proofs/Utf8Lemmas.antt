@@ -16,7 +16,7 @@ row true v x o h k e = let same : v ≡ x = cc in omega arith
 row false v x o h k e = k e
 
 -- a short escape stands for a character of ASCII
-short_ascii : (l x : ℕ) → escaped_character l ≡ Some x → x < 128
+pub short_ascii : (l x : ℕ) → escaped_character l ≡ Some x → x < 128
 short_ascii l x =
     row (eqb l 34) 34 x _ (omega arith) (row (eqb l 92) 92 x _ (omega arith) (row (eqb l 47) 47 x _ (omega arith) (row (eqb l 98) 8 x _ (omega arith)
     (row (eqb l 102) 12 x _ (omega arith) (row (eqb l 110) 10 x _ (omega arith) (row (eqb l 114) 13 x _ (omega arith) (row (eqb l 116) 9 x None (omega arith) (λ e. absurd (cc)))))))))
@@ -26,7 +26,7 @@ unit_scalar : (u : ℕ) → u < 65536 → is_high_surrogate u ≡ false → is_l
 unit_scalar u h high low = grind (arith, nat_tests)
 
 -- the character of a pair
-pair_scalar : (h l : ℕ) → is_high_surrogate h ≡ true → is_low_surrogate l ≡ true → IsScalar (paired h l)
+pub pair_scalar : (h l : ℕ) → is_high_surrogate h ≡ true → is_low_surrogate l ≡ true → IsScalar (paired h l)
 pair_scalar h l high low = grind (arith, nat_tests)
 
 -- each spelling is of a character

@@ -2,3 +2,17 @@ pub mod JsonStrings
 pub mod JsonNumbers
 pub mod StringOutput
 pub mod AppendedBytes
+pub mod JsonTree
+pub mod JsonText
+pub mod StringSteps
+pub mod WordSteps
+pub mod NestingSteps
+pub mod ReadingSteps
+pub mod WordStates
+pub mod JsonTokens
+pub mod ReadingMoves
+pub mod NestingSpot
+pub mod HeldWords
+pub mod ReaderState
+pub mod ProgressSeen
+pub mod ReaderAnswers

@@ -1,0 +1,355 @@
+//! How far a text has come, byte by byte.
+
+ghost use Rattle.std.specs.Prelude.{◌≡◌, ℕ, ◌+◌, ◌*◌, ◌<◌, ◌≤◌, ◌⊎◌, List, [], ◌∷◌, length, take, true, Some, None, IfOk, IfErr, IfSome, IsSome, OnOk, IsUtf8};
+ghost use Rattle.json_events.specs.WordSteps.{begin, more_state, held_on};
+ghost use Rattle.json_events.specs.WordStates.{IsOpen};
+ghost use Rattle.json_events.specs.JsonTree.{digits};
+ghost use Rattle.json_events.specs.declared.fault.JsonFault.TheVariants as fault;
+ghost use Rattle.json_events.specs.HeldWords.{HoldsAt, HoldsWord};
+ghost use Rattle.json_events.specs.NestingSpot.{spot_seen};
+ghost use Rattle.json_events.specs.ReadingSteps.{leaves, on_word, begins, wants_key};
+ghost use Rattle.json_events.specs.ReadingMoves.{lost, takes, moved_at, moved_word, may_come};
+ghost use Rattle.json_events.specs.JsonTokens.{level_in, level_limit};
+ghost use Rattle.json_events.specs.ReaderState.{config_at, saturated, IsReadable, StandsFor};
+ghost use Rattle.json_events.specs.ReaderAnswers.{mark_seen, StandsOn, IsFaultBehind, IsWholeWith, IsNotWhole, pending_word};
+ghost use Rattle.json_events.specs.ProgressSeen.{reading_of, given_seen, started, step_seen, at_behind, IsPlaced, IsBefore, IsEntryFault, IsRefused};
+
+use crate::endings::{ended, string_token, take_text};
+use crate::escapes::plain_len;
+use crate::fault::JsonFault;
+use crate::held::hold_more;
+use crate::nesting::{Spot, wants_key};
+use crate::stack::Stack;
+use crate::state::{Want, WordState};
+use crate::step::{Ended, Step};
+use crate::token::{Fed, Spanned, Token};
+use crate::words::{begin, hold_first, is_blank, is_plain_string, is_whole, kind, more};
+use std::alloc::Global;
+
+/// How far a text has come: the word that has begun, whether it stands where a key is wanted and what is
+/// kept of it, the place behind it, where it began, and how many bytes were taken.
+#[derive(Debug, Drop)]
+pub struct Progress {
+    pub alloc: Global,
+    pub word: Option<WordState>,
+    pub is_key: bool,
+    pub held: Vec<u8>,
+    pub spot: Spot,
+    pub from: u64,
+    pub at: u64,
+}
+
+impl Progress {
+    /// Nothing has come.
+    #[tactic(auto, using(crate::proofs::StandLemmas::start_stands))]
+    pub fn new(alloc: Global) -> Progress
+        ensures stands { StandsFor (reading_of result) [] [] }
+        ensures readable { IsReadable (reading_of result) }
+        ensures idle { result.word ≡ None }
+    {
+        Progress {
+            alloc,
+            word: None,
+            is_key: false,
+            held: Vec::new(alloc),
+            spot: Spot {
+                want: Want::Value,
+                around: Stack::new(alloc),
+            },
+            from: 0,
+            at: 0,
+        }
+    }
+
+    /// Puts the word that has just taken a byte.
+    fn put(&mut self, l: WordState) -> Option<Spanned>
+        requires holds { HoldsWord l self.old.held.items }
+        ensures out { (from at : ℕ) → leaves (config_at (reading_of self.new) from at) (given_seen result from at) ≡ on_word (record { state = l; is_key = self.old.is_key; held = self.old.held.items }) (spot_seen self.old.spot) from at }
+        ensures holds { HoldsAt self.new.word self.new.held.items }
+        ensures spot { self.new.spot ≡ self.old.spot }
+        ensures from { self.new.from ≡ self.old.from }
+        ensures at { self.new.at ≡ self.old.at }
+        ensures placed { IfSome result (λ s. (s.from ≡ self.old.from) × (s.to ≡ self.old.at)) }
+    {
+        match ended(l) {
+            Ended::No => {
+                self.word = Some(l);
+                None
+            }
+            Ended::Quiet => {
+                self.word = None;
+                None
+            }
+            Ended::Text => {
+                self.word = None;
+                let text = take_text(self.alloc, &mut self.held);
+                Some(Spanned {
+                    token: string_token(self.is_key, text),
+                    from: self.from,
+                    to: self.at,
+                })
+            }
+            Ended::Gives(token) => {
+                self.word = None;
+                Some(Spanned {
+                    token,
+                    from: self.from,
+                    to: self.at,
+                })
+            }
+        }
+    }
+
+    /// Takes a byte that is not white space, where no word has begun.
+    fn enter(&mut self, b: u8) -> Result<Option<Spanned>, JsonFault>
+        requires shallow { level_in self.old.spot.want self.old.spot.around ≤ level_limit }
+        ensures ok { IfOk result (λ s. (at : ℕ) → leaves (config_at (reading_of self.new) at (at + 1)) (given_seen s at (at + 1)) ≡ begins (begin (wants_key self.old.spot.want) b) (spot_seen self.old.spot) at) }
+        ensures holds { OnOk result (HoldsAt self.new.word self.new.held.items) }
+        ensures shallow { OnOk result (level_in self.new.spot.want self.new.spot.around ≤ level_limit) }
+        ensures from { OnOk result (self.new.from ≡ self.old.at) }
+        ensures at { OnOk result (self.new.at ≡ saturated (self.old.at + 1)) }
+        ensures placed { IfOk result (λ t. IfSome t (λ s. (s.from ≡ self.old.at) × (s.to ≡ self.new.at))) }
+        ensures err { IfErr result (λ f. IsEntryFault f (reading_of self.old) b) }
+    {
+        let is_key = wants_key(self.spot.want);
+        match begin(is_key, b) {
+            None => Err(JsonFault::Syntax(self.at)),
+            Some(l) => match self.spot.enter(kind(l, is_key), self.at) {
+                Err(fault) => Err(fault),
+                Ok(()) => match hold_first(&mut self.held, l, b) {
+                    Err(_) => Err(JsonFault::NoMemory),
+                    Ok(()) => {
+                        self.is_key = is_key;
+                        self.from = self.at;
+                        self.at = self.at.saturating_add(1);
+                        Ok(self.put(l))
+                    }
+                },
+            },
+        }
+    }
+
+    /// Takes the number out that ends here.
+    fn take_number(&mut self) -> Spanned
+        requires { IsUtf8 self.old.held.items }
+        ensures mark { mark_seen result.token ≡ digits self.old.held.items }
+        ensures placed { (result.from ≡ self.old.from) × (result.to ≡ self.old.at) }
+        ensures word { self.new.word ≡ None }
+        ensures spot { self.new.spot ≡ self.old.spot }
+        ensures at { self.new.at ≡ self.old.at }
+    {
+        self.word = None;
+        let digits = take_text(self.alloc, &mut self.held);
+        Spanned {
+            token: Token::Number(digits),
+            from: self.from,
+            to: self.at,
+        }
+    }
+
+    /// Ends a word before a byte that does not go on with it.
+    #[tactic(auto, using(crate::proofs::HeldLemmas::whole_utf8))]
+    fn end_before(&mut self, l: WordState, b: u8) -> Result<Step, JsonFault>
+        requires open { IsOpen l }
+        requires holds { HoldsWord l self.old.held.items }
+        ensures ok { IfOk result (λ s. (from at : ℕ) → step_seen s (reading_of self.new) from at ≡ moved_word None (record { state = l; is_key = self.old.is_key; held = self.old.held.items }) (spot_seen self.old.spot) from at b) }
+        ensures err { IfErr result (λ f. (f ≡ fault.Syntax self.old.at) × ((from at : ℕ) → moved_word None (record { state = l; is_key = self.old.is_key; held = self.old.held.items }) (spot_seen self.old.spot) from at b ≡ lost)) }
+        ensures word { OnOk result (self.new.word ≡ None) }
+        ensures spot { self.new.spot ≡ self.old.spot }
+        ensures at { IfOk result (λ s. self.new.at ≡ at_behind s self.old.at) }
+        ensures placed { IfOk result (λ s. IsPlaced s self.old.from self.new.at) }
+    {
+        if is_whole(l) && self.may_come(b) {
+            Ok(Step::Before(self.take_number()))
+        } else {
+            Err(JsonFault::Syntax(self.at))
+        }
+    }
+
+    /// Whether a byte may stand where no word has begun.
+    fn may_come(&self, b: u8) -> bool
+        ensures { result ≡ may_come (spot_seen self.now.spot) b }
+    {
+        if is_blank(b) {
+            return true;
+        }
+        let is_key = wants_key(self.spot.want);
+        match begin(is_key, b) {
+            None => false,
+            Some(l) => self.spot.allows(kind(l, is_key)),
+        }
+    }
+
+    /// Goes on with a word by a byte that it may have.
+    #[tactic(auto, using(crate::proofs::HeldLemmas::more_holds))]
+    fn go_on(&mut self, l: WordState, next: WordState, b: u8) -> Result<Step, JsonFault>
+        requires open { IsOpen l }
+        requires holds { HoldsWord l self.old.held.items }
+        requires next { more_state l b ≡ Some next }
+        ensures ok { IfOk result (λ s. (from at : ℕ) → step_seen s (reading_of self.new) from at ≡ takes (on_word (record { state = next; is_key = self.old.is_key; held = held_on l self.old.held.items b }) (spot_seen self.old.spot) from (at + 1))) }
+        ensures err { IfErr result (λ f. f ≡ fault.NoMemory) }
+        ensures taken { IfOk result (λ s. IsBefore s → ⊥) }
+        ensures holds { OnOk result (HoldsAt self.new.word self.new.held.items) }
+        ensures spot { self.new.spot ≡ self.old.spot }
+        ensures from { self.new.from ≡ self.old.from }
+        ensures at { IfOk result (λ s. self.new.at ≡ at_behind s self.old.at) }
+        ensures placed { IfOk result (λ s. IsPlaced s self.old.from self.new.at) }
+    {
+        match hold_more(&mut self.held, l, b) {
+            Err(_) => Err(JsonFault::NoMemory),
+            Ok(()) => {
+                self.at = self.at.saturating_add(1);
+                match self.put(next) {
+                    None => Ok(Step::Takes),
+                    Some(token) => Ok(Step::Gives(token)),
+                }
+            }
+        }
+    }
+
+    /// One byte.
+    fn advance(&mut self, b: u8) -> Result<Step, JsonFault>
+        requires readable { IsReadable (reading_of self.old) }
+        ensures ok { IfOk result (λ s. (from at : ℕ) → step_seen s (reading_of self.new) (started self.old.word from at) at ≡ moved_at (config_at (reading_of self.old) from at) b) }
+        ensures err { IfErr result (λ f. IsRefused f (reading_of self.old) b) }
+        ensures holds { OnOk result (HoldsAt self.new.word self.new.held.items) }
+        ensures shallow { OnOk result (level_in self.new.spot.want self.new.spot.around ≤ level_limit) }
+        ensures at { IfOk result (λ s. self.new.at ≡ at_behind s self.old.at) }
+        ensures from { OnOk result (IfSome self.new.word (λ _. self.new.from ≡ started self.old.word self.old.from self.old.at)) }
+        ensures placed { IfOk result (λ s. IsPlaced s (started self.old.word self.old.from self.old.at) self.new.at) }
+        ensures before { IfOk result (λ s. IsBefore s → (pending_word self.old.word ≡ 1) × (pending_word self.new.word ≡ 0)) }
+    {
+        match self.word {
+            None => if is_blank(b) {
+                self.at = self.at.saturating_add(1);
+                Ok(Step::Takes)
+            } else {
+                match self.enter(b) {
+                    Err(e) => Err(e),
+                    Ok(None) => Ok(Step::Takes),
+                    Ok(Some(token)) => Ok(Step::Gives(token)),
+                }
+            },
+            Some(l) => match more(l, b) {
+                None => self.end_before(l, b),
+                Some(next) => self.go_on(l, next, b),
+            },
+        }
+    }
+
+    /// Takes the bytes at the front that stand for themselves, where a string has begun.
+    fn pass(&mut self, bytes: &[u8]) -> Result<usize, JsonFault>
+        requires readable { IsReadable (reading_of self.old) }
+        ensures readable { OnOk result (IsReadable (reading_of self.new)) }
+        ensures within { IfOk result (λ n. n ≤ length bytes.now) }
+        ensures stands { IfOk result (λ n. StandsOn (reading_of self.old) (reading_of self.new) (take n bytes.now) None) }
+        ensures word { self.new.word ≡ self.old.word }
+        ensures err { IfErr result (λ f. f ≡ fault.NoMemory) }
+    {
+        if !is_plain_string(self.word) {
+            return Ok(0);
+        }
+        let n = plain_len(bytes);
+        match self.held.extend_from_slice(&bytes[..n]) {
+            Err(_) => Err(JsonFault::NoMemory),
+            Ok(()) => {
+                self.at = self.at.saturating_add(n as u64);
+                Ok(n)
+            }
+        }
+    }
+
+    /// Takes one byte.
+    fn step(&mut self, bytes: &[u8]) -> Result<Fed, JsonFault>
+        requires readable { IsReadable (reading_of self.old) }
+        requires some { 0 < length bytes.now }
+        ensures readable { OnOk result (IsReadable (reading_of self.new)) }
+        ensures within { IfOk result (λ fed. fed.taken ≤ length bytes.now) }
+        ensures moves { IfOk result (λ fed. (fed.token ≡ None → 0 < fed.taken) × (IsSome fed.token → pending_word self.new.word < 2 * fed.taken + pending_word self.old.word)) }
+        ensures stands { IfOk result (λ fed. StandsOn (reading_of self.old) (reading_of self.new) (take fed.taken bytes.now) fed.token) }
+        ensures fault { IfErr result (λ f. IsFaultBehind f (reading_of self.old) bytes.now) }
+    {
+        match self.advance(bytes[0]) {
+            Err(fault) => Err(fault),
+            Ok(Step::Takes) => Ok(Fed {
+                taken: 1,
+                token: None,
+            }),
+            Ok(Step::Gives(token)) => Ok(Fed {
+                taken: 1,
+                token: Some(token),
+            }),
+            Ok(Step::Before(token)) => Ok(Fed {
+                taken: 0,
+                token: Some(token),
+            }),
+        }
+    }
+
+    /// Takes one byte, or more that stand for themselves in a string.
+    fn run(&mut self, bytes: &[u8]) -> Result<Fed, JsonFault>
+        requires readable { IsReadable (reading_of self.old) }
+        requires some { 0 < length bytes.now }
+        ensures readable { OnOk result (IsReadable (reading_of self.new)) }
+        ensures within { IfOk result (λ fed. fed.taken ≤ length bytes.now) }
+        ensures moves { IfOk result (λ fed. (fed.token ≡ None → 0 < fed.taken) × (IsSome fed.token → pending_word self.new.word < 2 * fed.taken + pending_word self.old.word)) }
+        ensures stands { IfOk result (λ fed. StandsOn (reading_of self.old) (reading_of self.new) (take fed.taken bytes.now) fed.token) }
+        ensures fault { IfErr result (λ f. IsFaultBehind f (reading_of self.old) bytes.now) }
+    {
+        match self.pass(bytes) {
+            Err(fault) => Err(fault),
+            Ok(taken) => if taken == 0 {
+                self.step(bytes)
+            } else {
+                Ok(Fed { taken, token: None })
+            },
+        }
+    }
+
+    /// Takes bytes until a token has ended or all are taken.
+    pub fn read(&mut self, bytes: &[u8]) -> Result<Fed, JsonFault>
+        requires readable { IsReadable (reading_of self.old) }
+        ensures readable { OnOk result (IsReadable (reading_of self.new)) }
+        ensures within { IfOk result (λ fed. fed.taken ≤ length bytes.now) }
+        ensures all { IfOk result (λ fed. fed.token ≡ None → fed.taken ≡ length bytes.now) }
+        ensures moves { IfOk result (λ fed. IsSome fed.token → pending_word self.new.word < 2 * fed.taken + pending_word self.old.word) }
+        ensures stands { IfOk result (λ fed. StandsOn (reading_of self.old) (reading_of self.new) (take fed.taken bytes.now) fed.token) }
+        ensures fault { IfErr result (λ f. IsFaultBehind f (reading_of self.old) bytes.now) }
+    {
+        let mut taken = 0;
+        'bytes: while taken < bytes.len() {
+            match self.run(&bytes[taken..]) {
+                Err(fault) => return Err(fault),
+                Ok(Fed { taken: n, token }) => match token {
+                    None => taken += n,
+                    Some(given) => return Ok(Fed {
+                        taken: taken + n,
+                        token: Some(given),
+                    }),
+                },
+            }
+        }
+        Ok(Fed { taken, token: None })
+    }
+
+    /// Says that nothing follows.
+    pub fn end(&mut self) -> Result<Option<Spanned>, JsonFault>
+        requires readable { IsReadable (reading_of self.old) }
+        ensures readable { OnOk result (IsReadable (reading_of self.new)) }
+        ensures stands { IfOk result (λ token. StandsOn (reading_of self.old) (reading_of self.new) [] token) }
+        ensures whole { IfOk result (λ token. IsWholeWith (StandsFor (reading_of self.old)) token) }
+        ensures fault { IfErr result (λ f. IsNotWhole (StandsFor (reading_of self.old)) f) }
+    {
+        if !self.spot.is_done() {
+            return Err(JsonFault::Syntax(self.at));
+        }
+        match self.word {
+            None => Ok(None),
+            Some(l) => if is_whole(l) {
+                Ok(Some(self.take_number()))
+            } else {
+                Err(JsonFault::Syntax(self.at))
+            },
+        }
+    }
+}
