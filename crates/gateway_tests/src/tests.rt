@@ -7,7 +7,7 @@ use schema::{
 };
 use std::alloc::Global;
 use std::test::Fail;
-use wire_format::{Records, WireKind, encode, encoded_len};
+use wire_format::{DecodeFault, Records, WireFault, WireKind, decode, encode, encoded_len};
 
 #[test]
 fn bytes_are_held(rt: HostRuntime) -> Result<(), Fail> {
@@ -206,12 +206,14 @@ fn want_of_memory_is_told(rt: HostRuntime) -> Result<(), Fail> {
     Ok(())
 }
 
-/// A book: a title, pages, packed marks, a stock by key, a zigzag number, a fixed number and a book that follows it.
+/// A book: a title, an author, pages, packed marks, a stock by key, a zigzag number, a fixed number,
+/// a oneof of a person and an owner, and a book that follows it.
 fn book(alloc: Global) -> Result<Types, Fail> {
     let book = Kind::Message(TypeId(0));
     let int32 = Kind::One(Scalar::Int32);
     let mut fields = List::new(alloc);
     fields.push(field(alloc, "title", 1, Kind::One(Scalar::Text), Shape::Single)?)?;
+    fields.push(field(alloc, "author", 2, Kind::One(Scalar::Text), Shape::Single)?)?;
     fields.push(field(alloc, "pages", 3, int32, Shape::Single)?)?;
     let mut marks = field(alloc, "marks", 4, int32, Shape::Many)?;
     marks.packed = true;
@@ -225,6 +227,18 @@ fn book(alloc: Global) -> Result<Types, Fail> {
         Kind::One(Scalar::Sfixed32),
         Shape::Single,
     )?)?;
+    let mut person = field(
+        alloc,
+        "person",
+        10,
+        Kind::One(Scalar::Text),
+        Shape::Member(0),
+    )?;
+    person.presence = Presence::Explicit;
+    fields.push(person)?;
+    let mut owner = field(alloc, "owner", 11, book, Shape::Member(0))?;
+    owner.presence = Presence::Explicit;
+    fields.push(owner)?;
     let mut sequel = field(alloc, "sequel", 14, book, Shape::Single)?;
     sequel.presence = Presence::Explicit;
     fields.push(sequel)?;
@@ -277,6 +291,78 @@ fn values_of_every_shape_are_written(rt: HostRuntime) -> Result<(), Fail> {
     let stock_and_rest = "4a050a016110024a050a0162100060036dfeffffff72030a0162";
     assert!(rt; hex.starts_with(pages_and_marks) && hex.ends_with(stock_and_rest));
     assert_eq!(rt; (out.len(), len), (43, 43));
+    Ok(())
+}
+
+/// The canonical bytes of what bytes are as a book, in hex; or why they are none.
+fn recoded(
+    alloc: Global,
+    types: &Types,
+    bytes: &[u8],
+) -> Result<(String, Option<DecodeFault>), Fail> {
+    let mut out = Vec::new(alloc);
+    let mut why = None;
+    match decode(alloc, types, TypeId(0), bytes) {
+        Ok(value) => {
+            if valid(types, TypeId(0), &value) {
+                encode(types, TypeId(0), &value, &mut out)?;
+            }
+        }
+        Err(fault) => why = Some(fault),
+    }
+    Ok((hex::encode(alloc, out.as_slice())?, why))
+}
+
+#[test]
+fn bytes_are_decoded(rt: HostRuntime) -> Result<(), Fail> {
+    let types = book(rt.alloc())?;
+    let rows: [(&[u8], &str); 9] = [
+        (b"\x72\x03\x12\x01a\x72\x03\x0a\x01b", "72060a0162120161"),
+        (b"\x22\x02\x01\x02\x20\xac\x02", "22040102ac02"),
+        (
+            b"\x4a\x03\x0a\x01b\x4a\x05\x0a\x01a\x10\x01\x4a\x05\x0a\x01a\x10\x02",
+            "4a050a016110024a050a01621000",
+        ),
+        (b"\x52\x01x\x5a\x00", "5a00"),
+        (b"\x5a\x00\x52\x01y", "520179"),
+        (b"\x9b\x06\x08\x01\x9c\x06\x18\x05", "1805"),
+        (b"\x1d\x01\x00\x00\x00", ""),
+        (b"\x18\x01\x18\x00", ""),
+        (b"\x60\x03\x6d\xfe\xff\xff\xff", "60036dfeffffff"),
+    ];
+    for (bytes, hex) in rows.iter() {
+        let (written, why) = recoded(rt.alloc(), &types, bytes)?;
+        assert_eq!(rt; written.as_str(), *hex);
+        assert!(rt; why.is_none());
+    }
+    Ok(())
+}
+
+/// What is wrong with a record at a place.
+fn wire(place: u64, kind: WireKind) -> DecodeFault {
+    DecodeFault::Wire(WireFault { place, kind })
+}
+
+#[test]
+fn bytes_are_refused(rt: HostRuntime) -> Result<(), Fail> {
+    let types = book(rt.alloc())?;
+    let rows: [(&[u8], DecodeFault); 8] = [
+        (
+            b"\x18\x80\x80\x80\x80\x80\x80\x80\x80\x80\x80",
+            wire(0, WireKind::LongVarint),
+        ),
+        (b"\x0b", wire(0, WireKind::BadGroup)),
+        (b"\x0a\x05ab", wire(0, WireKind::Short)),
+        (b"\x0a\x01\xff", DecodeFault::NotUtf8(0)),
+        (b"\x72\x03\x0a\x01\xff", DecodeFault::NotUtf8(2)),
+        (b"\x72\x01\x0a\x72\x00", wire(2, WireKind::Short)),
+        (b"\x22\x01\x80", wire(2, WireKind::Short)),
+        (b"\x4a\x03\x0a\x01\xff", DecodeFault::NotUtf8(2)),
+    ];
+    for (bytes, fault) in rows.iter() {
+        let (_, why) = recoded(rt.alloc(), &types, bytes)?;
+        assert_eq!(rt; why, Some(*fault));
+    }
     Ok(())
 }
 

@@ -6,3 +6,11 @@ pub mod PlainLemmas
 pub mod RecordLemmas
 pub mod ValidLemmas
 pub mod SizeLemmas
+pub mod FaultLemmas
+pub mod StableLemmas
+pub mod GoodLemmas
+pub mod OneofLemmas
+pub mod EntryLemmas
+pub mod ItemLemmas
+pub mod CollectLemmas
+pub mod MeaningLemmas

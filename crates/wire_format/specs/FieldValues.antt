@@ -1,6 +1,6 @@
 -- The value that bytes are as a message: for each field the slot that its records say (the encoding guide,
 -- "Last One Wins", "Oneofs", "Packed Repeated Fields", "Maps").
-use Rattle.std.specs.Prelude.{◌==◌, ◌&&◌, ◌||◌, ℕ, pos, zero, suc, false, Bool, List, [], ◌∷◌, Option, Some, None, map, is_some, if◌then◌else◌, option_and_then, option_map, unwrap_or}
+use Rattle.std.specs.Prelude.{◌==◌, ◌&&◌, ◌||◌, ℕ, pos, zero, suc, false, Bool, List, [], ◌∷◌, Option, Some, None, map, is_some, if◌then◌else◌, option_and_then, unwrap_or}
 use Rattle.std.specs.List.{flat_map, filter_map}
 use Rattle.std.specs.Ordering.{is_eq, is_lt}
 use Rattle.schema.specs.Layers.{ItemLayer}
@@ -23,7 +23,7 @@ use Rattle.schema.specs.declared.value.Item.TheOpen.{Number, Truth, Text, Messag
 use Rattle.schema.specs.declared.value.Item.{roll-Item, Item}
 use Rattle.schema.specs.declared.value.Slot.{roll-Slot, Slot}
 use Rattle.schema.specs.declared.value.Value.{Value}
-use Rattle.wire_format.specs.Scalars.{scalar_of, is_packable, elements, default_of}
+use Rattle.wire_format.specs.Scalars.{scalar_of, is_packable, option_list, elements, default_of}
 use Rattle.wire_format.specs.WireRecord.{Record, Payload, sized, records}
 
 -- the last of a list
@@ -36,6 +36,11 @@ last_of (x ∷ y ∷ xs) = last_of (y ∷ xs)
 abbrev pub some_of : {A : Type 0} → (A → Bool) → List A → Bool
 some_of p [] = false
 some_of p (x ∷ xs) = p x || some_of p xs
+
+-- the test passes for the first of a list
+abbrev pub first_passes : {A : Type 0} → (A → Bool) → List A → Bool
+first_passes p [] = false
+first_passes p (x ∷ xs) = p x
 
 -- what stands behind the last for which the test passes
 abbrev pub since : {A : Type 0} → (A → Bool) → List A → List A
@@ -107,8 +112,8 @@ singular inner types (MessageOf id) ps = message_item inner (fields_of types id)
 
 -- the items of one scalar payload of a list, packed or not
 abbrev pub scalar_items : Scalar → Payload → List ItemLayer
-scalar_items s (sized bs) = if is_packable s then elements s 0 bs else unwrap_or (option_map (λ i. i ∷ []) (scalar_of s (sized bs))) []
-scalar_items s p = unwrap_or (option_map (λ i. i ∷ []) (scalar_of s p)) []
+scalar_items s (sized bs) = if is_packable s then elements s 0 bs else option_list (scalar_of s (sized bs))
+scalar_items s p = option_list (scalar_of s p)
 
 -- the items of one payload of a list
 abbrev pub items_of : Inner → Types → Kind → Payload → List ItemLayer
@@ -143,10 +148,14 @@ abbrev pub last_entries : List (Key × Item) → List (Key × Item)
 last_entries [] = []
 last_entries (e ∷ es) = if_new e (last_entries es)
 
--- the slot of a map: none for the empty one
+-- the slot of entries: none for no entries
+abbrev pub entries_slot : List (Key × Item) → Option Slot
+entries_slot [] = None
+entries_slot (e ∷ es) = Some (roll-Slot (Entries (record { entries = e ∷ es })))
+
+-- the slot of a map
 abbrev pub pairs : List (Key × Item) → Option Slot
-pairs [] = None
-pairs (e ∷ es) = Some (roll-Slot (Entries (record { entries = last_entries (e ∷ es) })))
+pairs es = entries_slot (last_entries es)
 
 -- the slot of a field by the payloads that count for it
 abbrev pub slot_by : Inner → Types → Presence → Shape → Kind → List Payload → Option Slot

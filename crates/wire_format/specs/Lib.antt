@@ -11,6 +11,9 @@ pub mod Scalars
 pub mod WireFaults
 pub mod FieldValues
 pub mod Decoding
+pub mod Laws
+pub mod Checks
+pub mod GoodBytes
 pub mod CanonicalBytes
 pub mod Sizes
 pub mod WorkedExamples

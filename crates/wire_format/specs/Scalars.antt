@@ -1,6 +1,6 @@
 -- What a payload is as a scalar (the encoding guide, "Encoding Field Types"): int32, int64 and enums in two's
 -- complement, cut to 32 bits where the field has 32; sint by zigzag; fixed in four or eight bytes.
-use Rattle.std.specs.Prelude.{◌==◌, ◌%◌, ◌^◌, ◌/◌, ◌-◌, ℕ, ℤ, pos, negsuc, zero, suc, true, false, Bool, List, [], ◌∷◌, Option, Some, None, Result, Ok, Err, if◌then◌else◌}
+use Rattle.std.specs.Prelude.{◌==◌, ◌%◌, ◌^◌, ◌/◌, ◌-◌, ◌++◌, ℕ, ℤ, pos, negsuc, zero, suc, true, false, Bool, List, [], ◌∷◌, Option, Some, None, Result, Ok, Err, if◌then◌else◌}
 use Rattle.std.specs.Int.{w32, w64, cast_signed}
 use Rattle.schema.specs.Layers.{ItemLayer}
 use Rattle.schema.specs.declared.value.Item.TheOpen.{Number, Truth, Text, Bytes}
@@ -56,10 +56,15 @@ default_of TextOf = Text []
 default_of BytesOf = Bytes []
 default_of _ = Number (pos 0)
 
--- an item and what goes on behind it
+-- one item, or none, as a list
+abbrev pub option_list : {A : Type 0} → Option A → List A
+option_list None = []
+option_list (Some x) = x ∷ []
+
+-- an item, if it fits, and what goes on behind it
 abbrev pub and_elements : Scalar → Result Piece WireKind → (ℕ → List ItemLayer) → List ItemLayer
 and_elements s (Err e) go = []
-and_elements s (Ok p) go = elim (scalar_of s p.payload) [ None ↦ go (p.to - 1) | Some i ↦ i ∷ go (p.to - 1) ]
+and_elements s (Ok p) go = option_list (scalar_of s p.payload) ++ go (p.to - 1)
 
 -- the items of a packed payload behind `skip` bytes
 abbrev pub elements : Scalar → ℕ → List ℕ → List ItemLayer

@@ -22,11 +22,13 @@ pub data Fault : Type 0 where
   Wire : (place : ℕ) (kind : WireKind) → Fault
   NotUtf8 : (place : ℕ) → Fault
 
+-- a part of an entry of a map: a single field that has no name
+abbrev pub entry_field : ℕ → Kind → Field
+entry_field n kind = record { name = []; json = []; number = n; kind = kind; shape = Single; presence = Explicit; packed = false }
+
 -- an entry of a map is a message with a key and a value
 abbrev pub entry_fields : Scalar → Kind → List Field
-entry_fields s kind =
-    record { name = []; json = []; number = 1; kind = OneOf s; shape = Single; presence = Explicit; packed = false }
-    ∷ record { name = []; json = []; number = 2; kind = kind; shape = Single; presence = Explicit; packed = false } ∷ []
+entry_fields s kind = entry_field 1 (OneOf s) ∷ entry_field 2 kind ∷ []
 
 -- a kind is a message
 abbrev pub is_message : Kind → Bool
@@ -49,14 +51,19 @@ element_fault s place skip [] = None
 element_fault s place (suc skip) (b ∷ bs) = element_fault s (place + 1) skip bs
 element_fault s place zero (b ∷ bs) = and_element_fault place (payload_in (scalar_wire s) (b ∷ bs)) (λ skip. element_fault s (place + 1) skip bs)
 
+-- the fault of a length-delimited payload of a scalar field of this shape
+abbrev pub scalar_fault : Shape → Scalar → ℕ → ℕ → List ℕ → Option Fault
+scalar_fault shape TextOf place from bs = if is_utf8 bs then None else Some (NotUtf8 place)
+scalar_fault Many s place from bs = if is_packable s then element_fault s from 0 bs else None
+scalar_fault shape s place from bs = None
+
 -- the fault of a payload of a field, where `inner` gives that of a message and `k` levels are left: with none, no
 -- message may stand here; with one, no entry of a map whose values are messages
 abbrev pub payload_fault : (List Field → ℕ → List ℕ → Option Fault) → Types → ℕ → Shape → Kind → ℕ → ℕ → Payload → Option Fault
 payload_fault inner types k (MapOf s) kind place from (sized bs) = if k == 0 || (k == 1 && is_message kind) then Some (Wire place TooDeep) else inner (entry_fields s kind) from bs
 payload_fault inner types k shape (MessageOf id) place from (sized bs) = if k == 0 then Some (Wire place TooDeep) else inner (fields_of types id) from bs
-payload_fault inner types k shape (OneOf TextOf) place from (sized bs) = if is_utf8 bs then None else Some (NotUtf8 place)
-payload_fault inner types k Many (OneOf s) place from (sized bs) = if is_packable s then element_fault s from 0 bs else None
-payload_fault inner types k _ _ place from _ = None
+payload_fault inner types k shape (OneOf s) place from (sized bs) = scalar_fault shape s place from bs
+payload_fault inner types k shape kind place from p = None
 
 -- the fault of a record of the field that its number has
 abbrev pub field_fault : (List Field → ℕ → List ℕ → Option Fault) → Types → ℕ → Option Field → ℕ → Record → Option Fault

@@ -23,3 +23,14 @@ pub struct WireFault {
     /// What is wrong.
     pub kind: WireKind,
 }
+
+/// Why bytes are no value of a message type.
+#[derive(Debug, Clone, Copy, PartialEq, Eq)]
+pub enum DecodeFault {
+    /// A record or a packed element is wrong.
+    Wire(WireFault),
+    /// A string is not UTF-8; the offset is that of its record in the whole input.
+    NotUtf8(u64),
+    /// Out of memory.
+    NoMemory,
+}

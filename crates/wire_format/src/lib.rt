@@ -1,23 +1,33 @@
 //! The protobuf wire format (the encoding guide): records of bytes, and the canonical bytes of a
 //! value.
 //!
-//! `Records` reads the records of one level, and `encode` writes a value. Begin with these two.
+//! `Records` reads the records of one level, `decode` a value, and `encode` writes one. Begin with
+//! `decode` and `encode`.
 #![tactic(auto)]
 
+mod checker;
+mod decoder;
 mod encoder;
 mod examples;
 mod fault;
 mod groups;
+mod items;
+mod laws;
 mod numbers;
 mod payload;
+mod payloads;
 mod records;
+mod scalars;
 mod sizes;
+mod slots;
 mod varint;
 
+pub use decoder::decode;
 pub use encoder::encode;
 pub use examples::{canonical_examples, decoding_examples, map_examples};
-pub use fault::{WireFault, WireKind};
+pub use fault::{DecodeFault, WireFault, WireKind};
 pub use groups::RawRecord;
+pub use laws::{decodes_without_fault, one_value};
 pub use payload::Payload;
 pub use records::{Record, Records, first_record};
 pub use sizes::encoded_len;

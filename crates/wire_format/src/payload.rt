@@ -37,9 +37,9 @@ pub(crate) fn tag_of(bytes: &[u8]) -> Result<(u32, u8, usize), WireKind>
 
 /// The bytes of this many at the front, behind a length that ends at `from`.
 fn sized_of(size: u64, from: usize, rest: &[u8]) -> Result<(Payload<'_>, usize, usize), WireKind>
-    requires { from ≤ 10 }
+    requires { (1 ≤ from) × (from ≤ 10) }
     ensures value { Gives seen_piece result (sized_in size from rest.now) }
-    ensures within { IfOk result (λ p. (p.1 + sized_len p.0 ≤ p.2) × (p.2 ≤ from + length rest.now)) }
+    ensures within { IfOk result (λ p. (1 ≤ p.2) × (p.1 + sized_len p.0 ≤ p.2) × (p.2 ≤ from + length rest.now)) }
 {
     if (rest.len() as u64) < size {
         return Err(WireKind::Short);
@@ -52,7 +52,7 @@ fn sized_of(size: u64, from: usize, rest: &[u8]) -> Result<(Payload<'_>, usize, 
 #[tactic(auto, unfolding(crate::specs::WireRecord::payload_in))]
 pub(crate) fn payload_of(wire: u8, rest: &[u8]) -> Result<(Payload<'_>, usize, usize), WireKind>
     ensures value { Gives seen_piece result (payload_in wire rest.now) }
-    ensures within { IfOk result (λ p. (p.1 + sized_len p.0 ≤ p.2) × (p.2 ≤ length rest.now)) }
+    ensures within { IfOk result (λ p. (1 ≤ p.2) × (p.1 + sized_len p.0 ≤ p.2) × (p.2 ≤ length rest.now)) }
 {
     match wire {
         0 => {

@@ -1,0 +1,63 @@
+-- Bytes that have no fault as a message with these fields, told by their records: these are whole, text in them is
+-- UTF-8, and what is nested is the same, one level further in.
+use Rattle.std.specs.Prelude.{◌≡◌, ◌-◌, ℕ, zero, suc, true, List, [], ◌∷◌, Option, Some, None, Result, Ok, Err}
+use Rattle.std.specs.List.{AllByRecursion}
+use Rattle.std.specs.Str.{is_utf8}
+use Rattle.schema.specs.Types.{field_in, fields_of}
+use Rattle.schema.specs.declared.types.fields.Field.{Field}
+use Rattle.schema.specs.declared.types.fields.Kind.{Kind}
+use Rattle.schema.specs.declared.types.fields.Kind.TheVariants.{One as OneOf, Message as MessageOf}
+use Rattle.schema.specs.declared.types.fields.Scalar.{Scalar}
+use Rattle.schema.specs.declared.types.fields.Scalar.TheVariants.{Text as TextOf}
+use Rattle.schema.specs.declared.types.fields.Shape.{Shape}
+use Rattle.schema.specs.declared.types.fields.Shape.TheVariants.{Map as MapOf}
+use Rattle.schema.specs.declared.types.messages.Types.{Types}
+use Rattle.wire_format.specs.WireFaults.{entry_fields}
+use Rattle.wire_format.specs.WireRecord.{Record, Payload, sized, record_in, records}
+use Rattle.wire_format.specs.declared.fault.WireKind.{WireKind}
+
+-- a whole record, and what holds behind it
+abbrev pub AndWhole : Result Record (ℕ × WireKind) → (ℕ → Type 0) → Type 0
+AndWhole (Ok r) Go = Go (r.size - 1)
+AndWhole (Err e) Go = ⊥
+
+-- the bytes behind `skip` of them are whole records
+abbrev pub AreWhole : ℕ → ℕ → List ℕ → Type 0
+AreWhole k skip [] = skip ≡ 0
+AreWhole k (suc skip) (b ∷ bs) = AreWhole k skip bs
+AreWhole k zero (b ∷ bs) = AndWhole (record_in k (b ∷ bs)) (λ skip. AreWhole k skip bs)
+
+-- a payload is text that is UTF-8, where it is that of a string
+abbrev pub IsGoodText : Scalar → Payload → Type 0
+IsGoodText TextOf (sized bs) = is_utf8 bs ≡ true
+IsGoodText s p = Unit {0}
+
+-- a payload of one item of this kind has no fault, where `inner` says so of a message
+abbrev pub IsGoodItem : (List Field → List ℕ → Type 0) → Types → Kind → Payload → Type 0
+IsGoodItem inner types (MessageOf id) (sized bs) = inner (fields_of types id) bs
+IsGoodItem inner types (MessageOf id) p = Unit {0}
+IsGoodItem inner types (OneOf s) p = IsGoodText s p
+
+-- a payload of an entry of a map has none
+abbrev pub IsGoodEntry : (List Field → List ℕ → Type 0) → Scalar → Kind → Payload → Type 0
+IsGoodEntry inner s kind (sized bs) = inner (entry_fields s kind) bs
+IsGoodEntry inner s kind p = Unit {0}
+
+-- a payload of a field of this shape has none
+abbrev pub IsGoodPayload : (List Field → List ℕ → Type 0) → Types → Shape → Kind → Payload → Type 0
+IsGoodPayload inner types (MapOf s) kind p = IsGoodEntry inner s kind p
+IsGoodPayload inner types shape kind p = IsGoodItem inner types kind p
+
+-- a record of the field that its number has
+abbrev pub IsGoodRecord : (List Field → List ℕ → Type 0) → Types → Option Field → Record → Type 0
+IsGoodRecord inner types None r = Unit {0}
+IsGoodRecord inner types (Some f) r = IsGoodPayload inner types f.shape f.kind r.payload
+
+-- the records of a message with these fields
+abbrev pub AreGoodRecords : (List Field → List ℕ → Type 0) → Types → List Field → List Record → Type 0
+AreGoodRecords inner types fields rs = AllByRecursion (λ r. IsGoodRecord inner types (field_in fields r.number) r) rs
+
+-- bytes have no fault as a message with these fields, in so many levels
+unfoldable pub AreGood : ℕ → Types → List Field → List ℕ → Type 0
+AreGood zero types fields bytes = ⊥
+AreGood (suc k) types fields bytes = AreWhole k 0 bytes × AreGoodRecords (AreGood k types) types fields (records k 0 bytes)

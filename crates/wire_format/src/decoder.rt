@@ -1,0 +1,361 @@
+//! The value that bytes are as a message of a type (the encoding guide, "Last One Wins", "Packed
+//! Repeated Fields", "Maps").
+ghost use Rattle.std.specs.Prelude.{◌≡◌, ◌++◌, map, option_map, option_and_then, unwrap_or, Some, IfOk, OnOk};
+ghost use Rattle.std.specs.List.{AllByRecursion, flat_map, filter_map};
+ghost use Rattle.schema.specs.Pairs.{entries_of};
+ghost use Rattle.schema.specs.Types.{field_in};
+ghost use Rattle.schema.specs.Value.{slots_of};
+ghost use Rattle.schema.specs.declared.types.fields.Kind.TheVariants.{Message as MessageOf};
+ghost use Rattle.schema.specs.declared.value.Item.{out-Item};
+ghost use Rattle.wire_format.specs.Checks.{Decodes};
+ghost use Rattle.wire_format.specs.Decoding.{decoding};
+ghost use Rattle.wire_format.specs.FieldValues.{sized_of, payloads, message_item, pairs as pairs_slot, stored as stored_slot, counted as counted_records, default_item as default_layer, singular, items_of, slot_by as slot_by_payloads, slot_of, last_entries, gather, meaning_within};
+ghost use Rattle.wire_format.specs.GoodBytes.{IsGoodItem, IsGoodEntry, IsGoodPayload, AreGoodRecords, AreGood};
+ghost use Rattle.wire_format.specs.RecordViews.{raw_of, payload_of as seen_payload};
+ghost use Rattle.wire_format.specs.WireFaults.{entry_fields};
+
+use crate::checker::check_message;
+use crate::fault::DecodeFault;
+use crate::groups::RawRecord;
+use crate::items::{last_scalar, push_scalars};
+use crate::payload::Payload;
+use crate::payloads::{chunks_of, counted, joined, payloads_of, records_of};
+use crate::scalars::{key_of, stored};
+use crate::slots::{entries, many, or_default, put};
+use schema::{
+    Field, Item, Key, Kind, List, NoMemory, Pairs, Scalar, Shape, Slot, TypeId, Types, Value,
+    find_field,
+};
+use std::alloc::Global;
+
+/// The item of a singular field by its payloads: of a scalar the last, of a message all of them,
+/// joined.
+#[cycle(value)]
+fn item_of(
+    alloc: Global,
+    types: &Types,
+    level: u32,
+    kind: Kind,
+    payloads: &[Payload<'_>],
+) -> Result<Option<Item>, NoMemory>
+    requires { AllByRecursion (IsGoodItem (AreGood level types.now) types.now kind) (map seen_payload payloads.now) }
+    ensures { IfOk result (λ o. option_map out-Item o ≡ singular (meaning_within level types.now) types.now kind (map seen_payload payloads.now)) }
+{
+    match kind {
+        Kind::One(scalar) => last_scalar(alloc, scalar, payloads),
+        Kind::Message(id) => message_by(alloc, types, level, id, payloads),
+    }
+}
+
+/// The message that payloads are, joined; none where there is no payload.
+#[cycle(value)]
+fn message_by(
+    alloc: Global,
+    types: &Types,
+    level: u32,
+    id: TypeId,
+    payloads: &[Payload<'_>],
+) -> Result<Option<Item>, NoMemory>
+    requires { AllByRecursion (IsGoodItem (AreGood level types.now) types.now (MessageOf id)) (map seen_payload payloads.now) }
+    ensures { IfOk result (λ o. option_map out-Item o ≡ singular (meaning_within level types.now) types.now (MessageOf id) (map seen_payload payloads.now)) }
+{
+    let chunks = chunks_of(alloc, payloads)?;
+    merged(alloc, types, level, types.fields(id), chunks.as_slice())
+}
+
+/// The message that chunks are, joined; none where there is no chunk.
+#[cycle(value)]
+fn merged(
+    alloc: Global,
+    types: &Types,
+    level: u32,
+    fields: &[Field],
+    chunks: &[&[u8]],
+) -> Result<Option<Item>, NoMemory>
+    requires { AllByRecursion (AreGood level types.now fields.now) (map (λ b. b.now) chunks.now) }
+    ensures { IfOk result (λ o. option_map out-Item o ≡ message_item (meaning_within level types.now) fields.now (map (λ b. b.now) chunks.now)) }
+{
+    match chunks.split_first() {
+        None => Ok(None),
+        Some((first, rest)) => {
+            let value = joined_message(alloc, types, level, fields, first, rest)?;
+            Ok(Some(Item::Message(value)))
+        }
+    }
+}
+
+/// The message that one chunk and further ones are, joined.
+#[cycle(value)]
+fn joined_message(
+    alloc: Global,
+    types: &Types,
+    level: u32,
+    fields: &[Field],
+    first: &[u8],
+    rest: &[&[u8]],
+) -> Result<Value, NoMemory>
+    requires good { AreGood level types.now fields.now first.now }
+    requires rest { AllByRecursion (AreGood level types.now fields.now) (map (λ b. b.now) rest.now) }
+    ensures { IfOk result (λ v. v ≡ (meaning_within level types.now).message fields.now (first.now ++ flat_map (λ q. q) (map (λ b. b.now) rest.now))) }
+{
+    if rest.is_empty() {
+        return message_of(alloc, types, fields, level, first);
+    }
+    let bytes = joined(alloc, first, rest)?;
+    message_of(alloc, types, fields, level, bytes.as_slice())
+}
+
+/// Appends the items of a payload of a list.
+#[cycle(value)]
+fn push_items(
+    alloc: Global,
+    types: &Types,
+    level: u32,
+    kind: Kind,
+    payload: Payload<'_>,
+    items: &mut List<Item>,
+) -> Result<(), NoMemory>
+    requires { IsGoodItem (AreGood level types.now) types.now kind (seen_payload payload) }
+    ensures { OnOk result (map out-Item items.new ≡ map out-Item items.old ++ items_of (meaning_within level types.now) types.now kind (seen_payload payload.entry)) }
+{
+    match (kind, payload) {
+        (Kind::Message(id), Payload::Len(bytes)) => {
+            let value = message_of(alloc, types, types.fields(id), level, bytes)?;
+            items.push(Item::Message(value))
+        }
+        (Kind::Message(_), _) => Ok(()),
+        (Kind::One(scalar), _) => push_scalars(alloc, scalar, payload, items),
+    }
+}
+
+/// The items of a list by its payloads.
+#[cycle(value)]
+fn list_of(
+    alloc: Global,
+    types: &Types,
+    level: u32,
+    kind: Kind,
+    payloads: &[Payload<'_>],
+) -> Result<List<Item>, NoMemory>
+    requires { AllByRecursion (IsGoodItem (AreGood level types.now) types.now kind) (map seen_payload payloads.now) }
+    ensures { IfOk result (λ is. map out-Item is ≡ flat_map (items_of (meaning_within level types.now) types.now kind) (map seen_payload payloads.now)) }
+{
+    let mut items = List::new(alloc);
+    for payload in payloads {
+        push_items(alloc, types, level, kind, *payload, &mut items)?;
+    }
+    Ok(items)
+}
+
+/// The entry of a map that bytes are.
+#[cycle(value)]
+fn entry_of(
+    alloc: Global,
+    types: &Types,
+    level: u32,
+    scalar: Scalar,
+    kind: Kind,
+    bytes: &[u8],
+) -> Result<(Key, Item), NoMemory>
+    requires { AreGood level types.now (entry_fields scalar kind) bytes.now }
+    ensures { IfOk result (λ e. e ≡ (meaning_within level types.now).entry scalar kind bytes.now) }
+{
+    let inner = level - 1;
+    let records = records_of(alloc, bytes, inner)?;
+    let key = part_of(
+        alloc,
+        types,
+        inner,
+        Kind::One(scalar),
+        1,
+        records.as_slice(),
+    )?;
+    let item = part_of(alloc, types, inner, kind, 2, records.as_slice())?;
+    Ok((key_of(key), item))
+}
+
+/// A part of an entry, or its default.
+#[cycle(value)]
+fn part_of(
+    alloc: Global,
+    types: &Types,
+    level: u32,
+    kind: Kind,
+    number: u32,
+    records: &[RawRecord<'_>],
+) -> Result<Item, NoMemory>
+    requires { AllByRecursion (IsGoodItem (AreGood level types.now) types.now kind) (payloads number (map raw_of records.now)) }
+    ensures { IfOk result (λ i. out-Item i ≡ unwrap_or (singular (meaning_within level types.now) types.now kind (payloads number (map raw_of records.now))) (default_layer kind)) }
+{
+    let payloads = payloads_of(alloc, number, records)?;
+    let item = item_of(alloc, types, level, kind, payloads.as_slice())?;
+    Ok(or_default(alloc, kind, item))
+}
+
+/// The entries of a map by its chunks.
+#[cycle(value)]
+fn pairs_of(
+    alloc: Global,
+    types: &Types,
+    level: u32,
+    scalar: Scalar,
+    kind: Kind,
+    chunks: &[&[u8]],
+) -> Result<Pairs, NoMemory>
+    requires { AllByRecursion (AreGood level types.now (entry_fields scalar kind)) (map (λ b. b.now) chunks.now) }
+    ensures { IfOk result (λ ps. entries_of ps ≡ last_entries (map ((meaning_within level types.now).entry scalar kind) (map (λ b. b.now) chunks.now))) }
+{
+    let mut pairs = Pairs::new(alloc);
+    for chunk in chunks {
+        let (key, item) = entry_of(alloc, types, level, scalar, kind, chunk)?;
+        pairs.put(key, item)?;
+    }
+    Ok(pairs)
+}
+
+/// The slot of a field by the payloads that count for it.
+#[cycle(value)]
+fn slot_by(
+    alloc: Global,
+    types: &Types,
+    level: u32,
+    field: &Field,
+    payloads: &[Payload<'_>],
+) -> Result<Option<Slot>, NoMemory>
+    requires { AllByRecursion (IsGoodPayload (AreGood level types.now) types.now field.now.shape field.now.kind) (map seen_payload payloads.now) }
+    ensures { IfOk result (λ o. o ≡ slot_by_payloads (meaning_within level types.now) types.now field.now.presence field.now.shape field.now.kind (map seen_payload payloads.now)) }
+{
+    match field.shape {
+        Shape::Many => Ok(many(list_of(alloc, types, level, field.kind, payloads)?)),
+        Shape::Map(scalar) => map_by(alloc, types, level, scalar, field.kind, payloads),
+        Shape::Single => single_by(alloc, types, level, field, payloads),
+        Shape::Member(_) => single_by(alloc, types, level, field, payloads),
+    }
+}
+
+/// The slot of a map by its payloads.
+#[cycle(value)]
+fn map_by(
+    alloc: Global,
+    types: &Types,
+    level: u32,
+    scalar: Scalar,
+    kind: Kind,
+    payloads: &[Payload<'_>],
+) -> Result<Option<Slot>, NoMemory>
+    requires { AllByRecursion (IsGoodEntry (AreGood level types.now) scalar kind) (map seen_payload payloads.now) }
+    ensures { IfOk result (λ o. o ≡ pairs_slot (map ((meaning_within level types.now).entry scalar kind) (filter_map sized_of (map seen_payload payloads.now)))) }
+{
+    let chunks = chunks_of(alloc, payloads)?;
+    let pairs = pairs_of(alloc, types, level, scalar, kind, chunks.as_slice())?;
+    Ok(entries(pairs))
+}
+
+/// The slot of a singular field by its payloads.
+#[cycle(value)]
+fn single_by(
+    alloc: Global,
+    types: &Types,
+    level: u32,
+    field: &Field,
+    payloads: &[Payload<'_>],
+) -> Result<Option<Slot>, NoMemory>
+    requires { AllByRecursion (IsGoodItem (AreGood level types.now) types.now field.now.kind) (map seen_payload payloads.now) }
+    ensures { IfOk result (λ o. o ≡ option_and_then (stored_slot field.now.presence) (singular (meaning_within level types.now) types.now field.now.kind (map seen_payload payloads.now))) }
+{
+    match item_of(alloc, types, level, field.kind, payloads)? {
+        Some(item) => Ok(stored(field.presence, item)),
+        None => Ok(None),
+    }
+}
+
+/// The slot of a field by the records of a message.
+#[cycle(value)]
+fn field_slot(
+    alloc: Global,
+    types: &Types,
+    level: u32,
+    fields: &[Field],
+    records: &[RawRecord<'_>],
+    field: &Field,
+    number: u32,
+) -> Result<Option<Slot>, NoMemory>
+    requires known { field_in fields.now number ≡ Some field.now }
+    requires good { AreGoodRecords (AreGood level types.now) types.now fields.now (map raw_of records.now) }
+    ensures { IfOk result (λ o. o ≡ slot_by_payloads (meaning_within level types.now) types.now field.now.presence field.now.shape field.now.kind (payloads number (counted_records fields.now number field.now.shape (map raw_of records.now)))) }
+{
+    let counting = counted(fields, number, field.shape, records);
+    let payloads = payloads_of(alloc, number, counting)?;
+    slot_by(alloc, types, level, field, payloads.as_slice())
+}
+
+/// The slot of a field number by the records of a message.
+#[cycle(value)]
+fn slot_at(
+    alloc: Global,
+    types: &Types,
+    level: u32,
+    fields: &[Field],
+    records: &[RawRecord<'_>],
+    number: u32,
+) -> Result<Option<Slot>, NoMemory>
+    requires { AreGoodRecords (AreGood level types.now) types.now fields.now (map raw_of records.now) }
+    ensures { IfOk result (λ o. o ≡ slot_of (meaning_within level types.now) types.now fields.now (map raw_of records.now) number) }
+{
+    match find_field(fields, number) {
+        Some(field) => field_slot(alloc, types, level, fields, records, field, number),
+        None => Ok(None),
+    }
+}
+
+/// The message of the slots that records say.
+#[cycle(value)]
+fn gathered(
+    alloc: Global,
+    types: &Types,
+    level: u32,
+    fields: &[Field],
+    records: &[RawRecord<'_>],
+) -> Result<Value, NoMemory>
+    requires { AreGoodRecords (AreGood level types.now) types.now fields.now (map raw_of records.now) }
+    ensures { IfOk result (λ v. slots_of v ≡ gather (slot_of (meaning_within level types.now) types.now fields.now (map raw_of records.now)) fields.now) }
+{
+    let mut value = Value::new(alloc);
+    let mut left = fields;
+    while let Some((field, rest)) = left.split_last() {
+        let slot = slot_at(alloc, types, level, fields, records, field.number)?;
+        put(&mut value, field.number, slot)?;
+        left = rest;
+    }
+    Ok(value)
+}
+
+/// The message that bytes are.
+#[cycle(value)]
+fn message_of(
+    alloc: Global,
+    types: &Types,
+    fields: &[Field],
+    level: u32,
+    bytes: &[u8],
+) -> Result<Value, NoMemory>
+    requires { AreGood level types.now fields.now bytes.now }
+    ensures { IfOk result (λ v. v ≡ (meaning_within level types.now).message fields.now bytes.now) }
+{
+    let inner = level - 1;
+    let records = records_of(alloc, bytes, inner)?;
+    gathered(alloc, types, inner, fields, records.as_slice())
+}
+
+/// The value that the bytes are as a message of the type, or the first fault.
+#[tactic(auto, unfolding(crate::specs::Decoding::decoding))]
+pub fn decode(alloc: Global, types: &Types, id: TypeId, bytes: &[u8]) -> Result<Value, DecodeFault>
+    ensures { Decodes result (decoding types.now id bytes.now) }
+{
+    let fields = types.fields(id);
+    check_message(alloc, types, 100, fields, 0, bytes)?;
+    match message_of(alloc, types, fields, 100, bytes) {
+        Ok(value) => Ok(value),
+        Err(NoMemory) => Err(DecodeFault::NoMemory),
+    }
+}

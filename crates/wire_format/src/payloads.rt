@@ -1,0 +1,161 @@
+//! The records of one message, and the payloads that count for a field (the encoding guide, "Last
+//! One Wins" and "Oneofs").
+ghost use Rattle.std.specs.Prelude.{◌≡◌, ◌++◌, if◌then◌else◌, map, IfOk};
+ghost use Rattle.std.specs.List.{flat_map, filter_map};
+ghost use Rattle.wire_format.specs.FieldValues.{payloads, sized_of, in_oneof as is_in_oneof, sets_other as is_setting_other, counted as counted_records, first_passes, since};
+ghost use Rattle.wire_format.specs.RecordViews.{raw_of, payload_of};
+ghost use Rattle.wire_format.specs.WireRecord.{records};
+
+use crate::groups::{RawRecord, record_of};
+use crate::payload::Payload;
+use crate::scalars::counts;
+use schema::{Field, NoMemory, Shape, find_field};
+use std::alloc::Global;
+
+/// All records of bytes, with groups in so many levels.
+pub(crate) fn records_of(
+    alloc: Global,
+    bytes: &[u8],
+    level: u32,
+) -> Result<Vec<RawRecord<'_>>, NoMemory>
+    ensures { IfOk result (λ v. map raw_of v.items ≡ records level 0 bytes.now) }
+{
+    let mut found = Vec::new(alloc);
+    let mut at = 0;
+    while at < bytes.len() {
+        let (_, left) = bytes.split_at(at);
+        match record_of(left, level) {
+            Ok(record) => {
+                at += record.size;
+                found.push(record)?;
+            }
+            Err(_) => return Ok(found),
+        }
+    }
+    Ok(found)
+}
+
+/// The payloads of a field number, in order.
+pub(crate) fn payloads_of<'a>(
+    alloc: Global,
+    number: u32,
+    records: &[RawRecord<'a>],
+) -> Result<Vec<Payload<'a>>, NoMemory>
+    ensures { IfOk result (λ v. map payload_of v.items ≡ payloads number (map raw_of records.now)) }
+{
+    let mut found = Vec::new(alloc);
+    for record in records {
+        if record.number == number {
+            found.push(record.payload)?;
+        }
+    }
+    Ok(found)
+}
+
+/// The bytes of length-delimited payloads, in order.
+pub(crate) fn chunks_of<'a>(
+    alloc: Global,
+    payloads: &[Payload<'a>],
+) -> Result<Vec<&'a [u8]>, NoMemory>
+    ensures { IfOk result (λ v. map (λ b. b.now) v.items ≡ filter_map sized_of (map payload_of payloads.now)) }
+{
+    let mut found = Vec::new(alloc);
+    for payload in payloads {
+        match payload {
+            Payload::Len(bytes) => found.push(*bytes)?,
+            _ => {}
+        }
+    }
+    Ok(found)
+}
+
+/// One chunk and further ones, one after another.
+pub(crate) fn joined(alloc: Global, first: &[u8], rest: &[&[u8]]) -> Result<Vec<u8>, NoMemory>
+    ensures { IfOk result (λ v. v.items ≡ first.now ++ flat_map (λ q. q) (map (λ b. b.now) rest.now)) }
+{
+    let mut bytes = Vec::from_slice(alloc, first)?;
+    for chunk in rest {
+        bytes.extend_from_slice(chunk)?;
+    }
+    Ok(bytes)
+}
+
+/// True where the shape is that of a member of this oneof.
+fn in_oneof(shape: Shape, oneof: u32) -> bool
+    ensures { result ≡ is_in_oneof oneof shape }
+{
+    match shape {
+        Shape::Member(other) => other == oneof,
+        _ => false,
+    }
+}
+
+/// True where the record sets another member of the oneof than the number's.
+fn sets_other(fields: &[Field], oneof: u32, number: u32, found: &RawRecord<'_>) -> bool
+    ensures { result ≡ is_setting_other fields.now oneof number (raw_of found.now) }
+{
+    if found.number == number {
+        return false;
+    }
+    match find_field(fields, found.number) {
+        Some(field) => in_oneof(field.shape, oneof) && counts(field.kind, found.payload),
+        None => false,
+    }
+}
+
+/// The records that count for a field: of a member of a oneof those behind the last that sets
+/// another member.
+pub(crate) fn counted<'r, 'a>(
+    fields: &[Field],
+    number: u32,
+    shape: Shape,
+    records: &'r [RawRecord<'a>],
+) -> &'r [RawRecord<'a>]
+    ensures { map raw_of result.now ≡ counted_records fields.now number shape (map raw_of records.now) }
+{
+    match shape {
+        Shape::Member(oneof) => since_other(fields, oneof, number, records),
+        _ => records,
+    }
+}
+
+/// True where the first of the records sets another member of the oneof.
+fn begins_other(fields: &[Field], oneof: u32, number: u32, records: &[RawRecord<'_>]) -> bool
+    ensures { result ≡ first_passes (is_setting_other fields.now oneof number) (map raw_of records.now) }
+{
+    match records.split_first() {
+        Some((record, _)) => sets_other(fields, oneof, number, record),
+        None => false,
+    }
+}
+
+/// Where the records that count begin: at an index, or where they began before.
+fn start_at(is_other: bool, at: usize, start: usize) -> usize
+    ensures { result ≡ (if is_other then at else start) }
+{
+    if is_other {
+        return at;
+    }
+    start
+}
+
+/// The records behind the last that sets another member of the oneof.
+fn since_other<'r, 'a>(
+    fields: &[Field],
+    oneof: u32,
+    number: u32,
+    records: &'r [RawRecord<'a>],
+) -> &'r [RawRecord<'a>]
+    ensures { map raw_of result.now ≡ since (is_setting_other fields.now oneof number) (map raw_of records.now) }
+{
+    let mut start = 0;
+    let mut at = 0;
+    while at < records.len() {
+        let (_, left) = records.split_at(at);
+        let is_other = begins_other(fields, oneof, number, left);
+        at += 1;
+        start = start_at(is_other, at, start);
+    }
+    let (_, since) = records.split_at(start);
+    since
+}
