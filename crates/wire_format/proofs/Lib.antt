@@ -14,3 +14,13 @@ pub mod EntryLemmas
 pub mod ItemLemmas
 pub mod CollectLemmas
 pub mod MeaningLemmas
+pub mod WrittenLemmas
+pub mod ScalarLemmas
+pub mod FieldRecordLemmas
+pub mod ItemReadLemmas
+pub mod EntryReadLemmas
+pub mod SlotReadLemmas
+pub mod RisingLemmas
+pub mod MessageReadLemmas
+pub mod LengthLemmas
+pub mod RoundTrip

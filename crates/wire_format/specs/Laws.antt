@@ -1,9 +1,13 @@
 -- Laws of bytes and values.
-use Rattle.std.specs.Prelude.{◌≡◌, ◌↔◌, ℕ, List, Ok}
+use Rattle.std.specs.Prelude.{◌≡◌, ◌<◌, ◌^◌, ◌↔◌, ℕ, List, Ok, length}
+use Rattle.schema.specs.Soundness.{IsSound}
+use Rattle.schema.specs.Validity.{IsValid}
 use Rattle.schema.specs.declared.types.messages.TypeId.{TypeId}
 use Rattle.schema.specs.declared.types.messages.Types.{Types}
 use Rattle.schema.specs.declared.value.Value.{Value}
+use Rattle.wire_format.specs.CanonicalBytes.{canonical_bytes}
 use Rattle.wire_format.specs.Decoding.{DecodesTo, decoding}
+use Rattle.wire_format.specs.PayloadLengths.{HasLengths}
 
 -- bytes are one value of a type at most
 abbrev pub HasOneValue : Type 0
@@ -12,3 +16,11 @@ HasOneValue = (types : Types) (id : TypeId) (bytes : List ℕ) (v w : Value) →
 -- bytes that have no fault, and what their records say, are exactly what is decoded
 abbrev pub DecodesWithoutFault : Type 0
 DecodesWithoutFault = (types : Types) (id : TypeId) (bytes : List ℕ) (v : Value) → decoding types id bytes ≡ Ok v ↔ DecodesTo types id bytes v
+
+-- the canonical bytes of a valid value decode to that value, where each length in them has 64 bits
+abbrev pub CanonicalBytesDecode : Type 0
+CanonicalBytesDecode = (types : Types) (id : TypeId) (v : Value) → IsSound types → IsValid types id v → HasLengths types id v → DecodesTo types id (canonical_bytes types id v) v
+
+-- so they do where they are fewer than 2 ^ 64 in all
+abbrev pub ShortCanonicalBytesDecode : Type 0
+ShortCanonicalBytesDecode = (types : Types) (id : TypeId) (v : Value) → IsSound types → IsValid types id v → length (canonical_bytes types id v) < 2 ^ 64 → DecodesTo types id (canonical_bytes types id v) v

@@ -1,5 +1,6 @@
 pub use Rattle.schema.specs.Layers
 pub use Rattle.schema.specs.Pairs
+pub use Rattle.schema.specs.Soundness
 pub use Rattle.schema.specs.Types
 pub use Rattle.schema.specs.Validity
 pub use Rattle.schema.specs.Value
@@ -11,10 +12,11 @@ pub mod Scalars
 pub mod WireFaults
 pub mod FieldValues
 pub mod Decoding
-pub mod Laws
 pub mod Checks
 pub mod GoodBytes
 pub mod CanonicalBytes
+pub mod PayloadLengths
+pub mod Laws
 pub mod Sizes
 pub mod WorkedExamples
 pub mod RecordViews

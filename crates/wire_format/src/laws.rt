@@ -1,5 +1,5 @@
 //! Laws that tie bytes and values together.
-ghost use Rattle.wire_format.specs.Laws.{DecodesWithoutFault, HasOneValue};
+ghost use Rattle.wire_format.specs.Laws.{CanonicalBytesDecode, DecodesWithoutFault, HasOneValue, ShortCanonicalBytesDecode};
 
 /// Bytes are one value of a message type at most.
 pub fn one_value()
@@ -9,4 +9,11 @@ pub fn one_value()
 /// What is decoded are exactly the bytes without a fault, and their value is what their records say.
 pub fn decodes_without_fault()
     ensures { DecodesWithoutFault }
+{}
+
+/// What is written of a valid value is read as that value. Each length in it must have 64 bits, as it
+/// has in whatever is shorter than 2^64 bytes.
+pub fn canonical_bytes_decode_to_their_value()
+    ensures lengths { CanonicalBytesDecode }
+    ensures short { ShortCanonicalBytesDecode }
 {}

@@ -1,0 +1,372 @@
+-- A message that was written is read again: the records of all its slots, and of each number what its slot says.
+use Rattle.std.proofs.Common.{◌≡◌, ◌≢◌, ◌+◌, ◌≤◌, ◌<◌, ◌==◌, ◌&&◌, ℕ, zero, suc, Bool, true, false, cond, nat_eq, List, [], ◌∷◌, ◌++◌, Option, Some, None, arith, refl, ap, ap₂, sym, ◌∙◌, subst, append-nil, option_and_then, option_map, unwrap_or, slice_get, is_some}
+use Rattle.std.specs.List.{AllByRecursion, cons_option}
+use Rattle.std.proofs.lemmas.Bool.{eqb-true, eqb-false, eq-eqb}
+use Rattle.std.proofs.lemmas.List.Concat.{flat_map-cons}
+use Rattle.schema.specs.Apart.{AreApart}
+use Rattle.schema.specs.Soundness.{IsSound, IsSoundMessage, IsSoundField}
+use Rattle.schema.specs.Types.{field_in, fields_of}
+use Rattle.schema.specs.Validity.{IsFieldSlot, AreFieldSlots, oneof_of, oneofs_in, valid_within}
+use Rattle.schema.specs.Value.{RiseFrom, slot_in}
+use Rattle.schema.specs.declared.value.Slot.{Slot, out-Slot, roll-out-Slot}
+use Rattle.schema.specs.declared.value.Value.{Value}
+use Rattle.schema.specs.declared.types.fields.Field.{Field}
+use Rattle.schema.specs.declared.types.fields.Kind.{Kind}
+use Rattle.schema.specs.declared.types.fields.Kind.TheVariants.{One as OneOf, Message as MessageOf}
+use Rattle.schema.specs.declared.types.fields.Presence.{Presence}
+use Rattle.schema.specs.declared.types.fields.Shape.{Shape}
+use Rattle.schema.specs.declared.types.fields.Shape.TheVariants.{Single, Member, Many as ManyOf, Map as MapOf}
+use Rattle.schema.specs.declared.types.messages.MessageType.{MessageType}
+use Rattle.schema.specs.declared.types.messages.TypeId.{TypeId}
+use Rattle.schema.specs.declared.types.messages.Types.{Types}
+use Rattle.wire_format.specs.CanonicalBytes.{field_bytes, slots_bytes}
+use Rattle.wire_format.specs.FieldValues.{Inner, payloads, some_of, since, counts, in_oneof, counts_in, sets_other, counted, slot_by, slot_of, gather, meaning_within}
+use Rattle.wire_format.specs.GoodBytes.{AreWhole}
+use Rattle.wire_format.specs.PayloadLengths.{HasFieldLengths, HaveFieldLengths}
+use Rattle.wire_format.specs.WireFaults.{Fault, payload_fault, field_fault, records_fault, first_fault}
+use Rattle.wire_format.specs.WireRecord.{Record, Payload, records}
+use Rattle.wire_format.proofs.StableLemmas.{records_joined, whole_joined}
+use Rattle.wire_format.proofs.FieldRecordLemmas.{AreRecordsOf, all_both, eqb_apart, payloads-append, payloads_same, payloads_other, payloads_all}
+use Rattle.wire_format.proofs.ItemReadLemmas.{ReadsBack}
+use Rattle.wire_format.proofs.EntryReadLemmas.{IsUnfaulted, no_fault}
+use Rattle.wire_format.proofs.SlotReadLemmas.{IsSlotBack, slot_back}
+use Rattle.wire_format.proofs.RisingLemmas.{same_slots, gather_rises, slot_in-gather}
+
+-- ---- sound fields
+
+pub record IsFound (types : Types) (n : ℕ) (f : Field) : Type 0 where
+  pub sound : IsSoundField types f
+  pub number : f.number ≡ n
+
+-- a field that is found is sound, and has the number
+pub field_found : (types : Types) (fs : List Field) (n : ℕ) (f : Field) → AllByRecursion (IsSoundField types) fs → field_in fs n ≡ Some f → IsFound types n f
+field_found types [] n f h e = absurd cc
+field_found types (g ∷ fs) n f h e = by (g.number == n) (eqb-true g.number n) e (λ d. field_found types fs n f h.1 d)
+  where
+    some_is : (x y : Field) → ◌≡◌ {A = Option Field} (Some x) (Some y) → x ≡ y
+    some_is x y e = cc
+
+    by : (b : Bool) → (b ≡ true → g.number ≡ n) → cond b (Some g) (field_in fs n) ≡ Some f → (field_in fs n ≡ Some f → IsFound types n f) → IsFound types n f
+    by true p e ih = subst (IsFound types n) (some_is g f e) (record { sound = h.0; number = p refl })
+    by false p e ih = ih e
+
+pub fields_sound : (types : Types) (id : TypeId) → IsSound types → AllByRecursion (IsSoundField types) (fields_of types id)
+fields_sound types id h = each types.messages id.0 h.messages
+  where
+    each : (ms : List MessageType) (i : ℕ) → AllByRecursion (IsSoundMessage types) ms → AllByRecursion (IsSoundField types) (unwrap_or (option_map (λ (m : MessageType). m.fields) (slice_get ms i)) [])
+    each [] i h = tt
+    each (m ∷ ms) zero h = h.0.fields
+    each (m ∷ ms) (suc i) h = each ms i h.1
+
+pub numbers_some : (types : Types) (fs : List Field) → AllByRecursion (IsSoundField types) fs → AllByRecursion (λ (f : Field). 0 < f.number) fs
+numbers_some types [] h = tt
+numbers_some types (f ∷ fs) h = (h.0.low, numbers_some types fs h.1)
+
+-- ---- members of a oneof
+
+none_passes : {A : Type 0} (p : A → Bool) (xs : List A) → AllByRecursion (λ (x : A). p x ≡ false) xs → some_of p xs ≡ false
+none_passes p [] h = refl
+none_passes p (x ∷ xs) h = rw (h.0, none_passes p xs h.1) refl
+
+-- where none passes, all stand behind the last that does
+since_all : {A : Type 0} (p : A → Bool) (xs : List A) → AllByRecursion (λ (x : A). p x ≡ false) xs → since p xs ≡ xs
+since_all p [] h = refl
+since_all p (x ∷ xs) h = let e : some_of p (x ∷ xs) ≡ false = none_passes p (x ∷ xs) h in rw e refl
+
+-- what has no payload of a number has none behind any record
+none_since : (p : Record → Bool) (n : ℕ) (rs : List Record) → payloads n rs ≡ [] → payloads n (since p rs) ≡ []
+none_since p n [] h = refl
+none_since p n (r ∷ rs) h = by (some_of p (r ∷ rs)) (none_since p n rs (tail_none (r.number == n) h))
+  where
+    tail_none : (b : Bool) → cond b (r.payload ∷ payloads n rs) (payloads n rs) ≡ [] → payloads n rs ≡ []
+    tail_none true e = absurd cc
+    tail_none false e = e
+
+    by : (b : Bool) → payloads n (since p rs) ≡ [] → payloads n (cond b (since p rs) (r ∷ rs)) ≡ []
+    by true ih = ih
+    by false ih = h
+
+-- a oneof, in front of others
+module _ (m : ℕ) where
+  abbrev AreOthers : List ℕ → Type 0
+  AreOthers js = AllByRecursion (λ (j : ℕ). nat_eq m j ≡ false) js
+
+  others_head : (j : ℕ) (x : Option ℕ) (js : List ℕ) → x ≡ Some j → AreOthers (cons_option x js) → nat_eq m j ≡ false
+  others_head j None js e h = absurd cc
+  others_head j (Some i) js e h = subst (λ (y : ℕ). nat_eq m y ≡ false) (some_is i j e) h.0
+    where
+      some_is : (x y : ℕ) → ◌≡◌ {A = Option ℕ} (Some x) (Some y) → x ≡ y
+      some_is x y e = cc
+
+  others_tail : (x : Option ℕ) (js : List ℕ) → AreOthers (cons_option x js) → AreOthers js
+  others_tail None js h = h
+  others_tail (Some i) js h = h.1
+
+  apart_head : (x : Option ℕ) (js : List ℕ) → x ≡ Some m → AreApart nat_eq (cons_option x js) → AreOthers js
+  apart_head None js e h = absurd cc
+  apart_head (Some i) js e h = subst (λ (y : ℕ). AllByRecursion (λ (j : ℕ). nat_eq y j ≡ false) js) (some_is i m e) h.0
+    where
+      some_is : (x y : ℕ) → ◌≡◌ {A = Option ℕ} (Some x) (Some y) → x ≡ y
+      some_is x y e = cc
+
+  not_other : nat_eq m m ≡ false → ⊥
+  not_other h = absurd (let t : nat_eq m m ≡ true = eq-eqb m m refl in let c : true ≡ false = sym t ∙ h in cc)
+
+apart_tail : (x : Option ℕ) (js : List ℕ) → AreApart nat_eq (cons_option x js) → AreApart nat_eq js
+apart_tail None js h = h
+apart_tail (Some i) js h = h.1
+
+-- the slot of a member of a oneof stands among those of oneofs
+oneof_found : (fields : List Field) (m k q : ℕ) (s : Slot) (es : List (ℕ × Slot)) → slot_in es q ≡ Some s → oneof_of (field_in fields q) ≡ Some k → AreOthers m (oneofs_in fields es) → nat_eq m k ≡ false
+oneof_found fields m k q s [] h o free = absurd cc
+oneof_found fields m k q s (e ∷ es) h o free = by (e.0 == q) (eqb-true e.0 q) h (λ d. oneof_found fields m k q s es d o (others_tail m (oneof_of (field_in fields e.0)) (oneofs_in fields es) free))
+  where
+    by : (b : Bool) → (b ≡ true → e.0 ≡ q) → cond b (Some e.1) (slot_in es q) ≡ Some s → (slot_in es q ≡ Some s → nat_eq m k ≡ false) → nat_eq m k ≡ false
+    by true p h ih = others_head m k (oneof_of (field_in fields e.0)) (oneofs_in fields es) (ap (λ (n : ℕ). oneof_of (field_in fields n)) (p refl) ∙ o) free
+    by false p h ih = ih h
+
+module _ (fields : List Field) (k q : ℕ) where
+  -- a slot of another number is none of a member of the oneof
+  abbrev IsApart : ℕ × Slot → Type 0
+  IsApart e = e.0 ≢ q → oneof_of (field_in fields e.0) ≢ Some k
+
+  all_apart : (es : List (ℕ × Slot)) → AreOthers k (oneofs_in fields es) → AllByRecursion IsApart es
+  all_apart [] h = tt
+  all_apart (e ∷ es) h = (
+    λ ne z. not_other k (others_head k k (oneof_of (field_in fields e.0)) (oneofs_in fields es) z h),
+    all_apart es (others_tail k (oneof_of (field_in fields e.0)) (oneofs_in fields es) h),
+  )
+
+  -- so it is where the oneof has one member
+  others_apart : (s : Slot) (es : List (ℕ × Slot)) → slot_in es q ≡ Some s → oneof_of (field_in fields q) ≡ Some k → AreApart nat_eq (oneofs_in fields es) → AllByRecursion IsApart es
+  others_apart s [] h o apart = tt
+  others_apart s (e ∷ es) h o apart = by (e.0 == q) (eqb-true e.0 q) h (λ d. others_apart s es d o (apart_tail (oneof_of (field_in fields e.0)) (oneofs_in fields es) apart))
+    where
+      by : (b : Bool) → (b ≡ true → e.0 ≡ q) → cond b (Some e.1) (slot_in es q) ≡ Some s → (slot_in es q ≡ Some s → AllByRecursion IsApart es) → AllByRecursion IsApart (e ∷ es)
+      by true p h ih = (
+        λ ne. absurd (ne (p refl)),
+        all_apart es (apart_head k (oneof_of (field_in fields e.0)) (oneofs_in fields es) (ap (λ (n : ℕ). oneof_of (field_in fields n)) (p refl) ∙ o) apart),
+      )
+      by false p h ih = (
+        λ ne z. not_other k (oneof_found fields k k q s es h o (apart_head k (oneof_of (field_in fields e.0)) (oneofs_in fields es) z apart)),
+        ih h,
+      )
+
+pub oneof_is : (f : Field) (shape : Shape) → f.shape ≡ shape → oneof_of (Some f) ≡ oneof_of (Some (record f { shape = shape }))
+oneof_is f shape e = ap (λ (x : Shape). oneof_of (Some (record f { shape = x }))) e
+
+not_in_oneof : (f : Field) (k : ℕ) → oneof_of (Some f) ≢ Some k → in_oneof k f.shape ≡ false
+not_in_oneof f k h = by f.shape refl
+  where
+    by : (shape : Shape) → f.shape ≡ shape → in_oneof k shape ≡ false
+    by (Member j) e = eqb_apart j k (λ z. h (oneof_is f (Member j) e ∙ ap (λ (x : ℕ). Some x) z))
+    by Single e = refl
+    by ManyOf e = refl
+    by (MapOf s) e = refl
+
+-- ---- a message, one level further in
+
+module _ (k : ℕ) (types : Types) (sub : TypeId → Value → List ℕ) (deeper : ReadsBack k types sub) (fields : List Field) (sound : AllByRecursion (IsSoundField types) fields) where
+  abbrev meaning : Inner
+  meaning = meaning_within k types
+
+  abbrev bytes_of : ℕ × Slot → List ℕ
+  bytes_of e = field_bytes sub (field_in fields e.0) e.1
+
+  abbrev check : ℕ → Record → Option Fault
+  check at r = field_fault (first_fault k types) types k (field_in fields r.number) at r
+
+  record IsEntry (e : ℕ × Slot) : Type 0 where
+    field : Field
+    known : field_in fields e.0 ≡ Some field
+    ps : List Payload
+    recs : AreRecordsOf k e.0 (bytes_of e) ps
+    slot : slot_by meaning types field.presence field.shape field.kind ps ≡ Some e.1
+    good : AllByRecursion (λ (p : Payload). (place from : ℕ) → payload_fault (first_fault k types) types k field.shape field.kind place from p ≡ None) ps
+
+  entry_of : (e : ℕ × Slot) (f : Field) → field_in fields e.0 ≡ Some f → IsFound types e.0 f → IsSlotBack k types sub deeper f f.shape (out-Slot e.1) → IsEntry e
+  entry_of e f known found b =
+      let bytes : bytes_of e ≡ field_bytes sub (Some f) e.1 = ap (λ (o : Option Field). field_bytes sub o e.1) known in
+      record {
+        field = f;
+        known = known;
+        ps = b.ps;
+        recs = subst (λ (bs : List ℕ). AreRecordsOf k e.0 bs b.ps) (sym bytes) (subst (λ (n : ℕ). AreRecordsOf k n (field_bytes sub (Some f) e.1) b.ps) found.number b.recs);
+        slot = b.slot ∙ ap (λ (s : Slot). Some s) (roll-out-Slot e.1);
+        good = b.good;
+      }
+
+  entry_is : (e : ℕ × Slot) (o : Option Field) → field_in fields e.0 ≡ o → IsFieldSlot (valid_within k types) o e.1 → HasFieldLengths sub o e.1 → IsEntry e
+  entry_is e None known h l = absurd h
+  entry_is e (Some f) known h l =
+      let found = field_found types fields e.0 f sound known in
+      let high : f.number ≤ 536870911 = found.sound.high in
+      entry_of e f known found (slot_back k types sub deeper f found.sound.low (omega arith) (λ p. (found.sound.packed p).1) f.shape (out-Slot e.1) h l)
+
+  all_entries : (es : List (ℕ × Slot)) → AreFieldSlots (valid_within k types) fields es → HaveFieldLengths sub fields es → AllByRecursion IsEntry es
+  all_entries [] h l = tt
+  all_entries (e ∷ es) h l = (entry_is e (field_in fields e.0) refl h.0 l.0, all_entries es h.1 l.1)
+
+  abbrev found_records : (es : List (ℕ × Slot)) → AllByRecursion IsEntry es → List Record
+  found_records [] h = []
+  found_records (e ∷ es) h = h.0.recs.found ++ found_records es h.1
+
+  all_whole : (es : List (ℕ × Slot)) (h : AllByRecursion IsEntry es) → AreWhole k 0 (slots_bytes sub fields es)
+  all_whole [] h = refl
+  all_whole (e ∷ es) h = subst (AreWhole k 0) (sym (flat_map-cons bytes_of e es)) (whole_joined k 0 (bytes_of e) (slots_bytes sub fields es) h.0.recs.whole (all_whole es h.1))
+
+  all_found : (es : List (ℕ × Slot)) (h : AllByRecursion IsEntry es) → records k 0 (slots_bytes sub fields es) ≡ found_records es h
+  all_found [] h = refl
+  all_found (e ∷ es) h =
+      ap (records k 0) (flat_map-cons bytes_of e es) ∙ records_joined k 0 (bytes_of e) (slots_bytes sub fields es) h.0.recs.whole
+      ∙ ap₂ (λ (rs ss : List Record). rs ++ ss) h.0.recs.are (all_found es h.1)
+
+  -- ---- no record has a fault
+
+  records_good : (n : ℕ) (f : Field) (rs : List Record) → field_in fields n ≡ Some f → AllByRecursion (λ (r : Record). r.number ≡ n) rs
+      → AllByRecursion (λ (r : Record). (place from : ℕ) → payload_fault (first_fault k types) types k f.shape f.kind place from r.payload ≡ None) rs → AllByRecursion (IsUnfaulted check k) rs
+  records_good n f [] known h g = tt
+  records_good n f (r ∷ rs) known h g =
+      (λ place. ap (λ (o : Option Field). field_fault (first_fault k types) types k o place r) (ap (field_in fields) h.0 ∙ known) ∙ g.0 place (place + r.head), records_good n f rs known h.1 g.1)
+
+  all_good : (es : List (ℕ × Slot)) (h : AllByRecursion IsEntry es) → AllByRecursion (IsUnfaulted check k) (found_records es h)
+  all_good [] h = tt
+  all_good (e ∷ es) h =
+      let x = h.0 in
+      all_both (IsUnfaulted check k) x.recs.found (found_records es h.1)
+      (records_good e.0 x.field x.recs.found x.known x.recs.numbers
+      (payloads_all (λ (p : Payload). (place from : ℕ) → payload_fault (first_fault k types) types k x.field.shape x.field.kind place from p ≡ None) x.recs.found x.ps x.recs.payloads x.good))
+      (all_good es h.1)
+
+  -- ---- what each number has
+
+  none_left : (low q : ℕ) (es : List (ℕ × Slot)) (h : AllByRecursion IsEntry es) → RiseFrom low es → q ≤ low → payloads q (found_records es h) ≡ []
+  none_left low q [] h rise l = refl
+  none_left low q (e ∷ es) h rise l =
+      let below : low < e.0 = rise.0 in
+      payloads-append q h.0.recs.found (found_records es h.1)
+      ∙ ap₂ (λ (xs ys : List Payload). xs ++ ys) (payloads_other e.0 q h.0.recs.found (λ z. absurd (omega arith)) h.0.recs.numbers) (none_left e.0 q es h.1 rise.1 (omega arith))
+
+  -- of the number of the first slot there are its payloads alone
+  head_found : (e : ℕ × Slot) (es : List (ℕ × Slot)) (h : AllByRecursion IsEntry (e ∷ es)) (q : ℕ) → RiseFrom e.0 es → e.0 ≡ q → payloads q (found_records (e ∷ es) h) ≡ h.0.ps
+  head_found e es h q rise same =
+      payloads-append q h.0.recs.found (found_records es h.1)
+      ∙ ap₂ (λ (xs ys : List Payload). xs ++ ys)
+      (ap (λ (n : ℕ). payloads n h.0.recs.found) (sym same) ∙ payloads_same e.0 h.0.recs.found h.0.recs.numbers ∙ h.0.recs.payloads)
+      (none_left e.0 q es h.1 rise (omega arith))
+      ∙ append-nil h.0.ps
+
+  -- of another number there is none of the first slot
+  tail_found : (e : ℕ × Slot) (es : List (ℕ × Slot)) (h : AllByRecursion IsEntry (e ∷ es)) (q : ℕ) → e.0 ≢ q → payloads q (found_records (e ∷ es) h) ≡ payloads q (found_records es h.1)
+  tail_found e es h q ne =
+      payloads-append q h.0.recs.found (found_records es h.1)
+      ∙ ap (λ (xs : List Payload). xs ++ payloads q (found_records es h.1)) (payloads_other e.0 q h.0.recs.found ne h.0.recs.numbers)
+
+  no_slot : (low q : ℕ) (es : List (ℕ × Slot)) (h : AllByRecursion IsEntry es) → RiseFrom low es → slot_in es q ≡ None → payloads q (found_records es h) ≡ []
+  no_slot low q [] h rise none = refl
+  no_slot low q (e ∷ es) h rise none = by (e.0 == q) (eqb-false e.0 q) none (no_slot e.0 q es h.1 rise.1)
+    where
+      by : (b : Bool) → (b ≡ false → e.0 ≢ q) → cond b (Some e.1) (slot_in es q) ≡ None → (slot_in es q ≡ None → payloads q (found_records es h.1) ≡ []) → payloads q (found_records (e ∷ es) h) ≡ []
+      by true p none ih = absurd cc
+      by false p none ih = tail_found e es h q (p refl) ∙ ih none
+
+  slot_none : (presence : Presence) (shape : Shape) (kind : Kind) → slot_by meaning types presence shape kind [] ≡ None
+  slot_none presence Single (OneOf s) = refl
+  slot_none presence Single (MessageOf id) = refl
+  slot_none presence (Member j) (OneOf s) = refl
+  slot_none presence (Member j) (MessageOf id) = refl
+  slot_none presence ManyOf kind = refl
+  slot_none presence (MapOf s) kind = refl
+
+  some_is : (x y : Field) → ◌≡◌ {A = Option Field} (Some x) (Some y) → x ≡ y
+  some_is x y e = cc
+
+  slot_again : (low q : ℕ) (f : Field) (es : List (ℕ × Slot)) (h : AllByRecursion IsEntry es) → RiseFrom low es → field_in fields q ≡ Some f
+      → slot_by meaning types f.presence f.shape f.kind (payloads q (found_records es h)) ≡ slot_in es q
+  slot_again low q f [] h rise known = slot_none f.presence f.shape f.kind
+  slot_again low q f (e ∷ es) h rise known = by (e.0 == q) (eqb-true e.0 q) (eqb-false e.0 q) (slot_again e.0 q f es h.1 rise.1 known)
+    where
+      by : (b : Bool) → (b ≡ true → e.0 ≡ q) → (b ≡ false → e.0 ≢ q) → slot_by meaning types f.presence f.shape f.kind (payloads q (found_records es h.1)) ≡ slot_in es q
+          → slot_by meaning types f.presence f.shape f.kind (payloads q (found_records (e ∷ es) h)) ≡ cond b (Some e.1) (slot_in es q)
+      by true p r ih =
+          let same : h.0.field ≡ f = some_is h.0.field f (sym h.0.known ∙ ap (field_in fields) (p refl) ∙ known) in
+          ap (slot_by meaning types f.presence f.shape f.kind) (head_found e es h q rise.1 (p refl))
+          ∙ ap (λ (g : Field). slot_by meaning types g.presence g.shape g.kind h.0.ps) (sym same) ∙ h.0.slot
+      by false p r ih = ap (slot_by meaning types f.presence f.shape f.kind) (tail_found e es h q (r refl)) ∙ ih
+
+  known_only : (q : ℕ) (es : List (ℕ × Slot)) (h : AllByRecursion IsEntry es) → field_in fields q ≡ None → slot_in es q ≡ None
+  known_only q [] h none = refl
+  known_only q (e ∷ es) h none = by (e.0 == q) (eqb-true e.0 q) (known_only q es h.1 none)
+    where
+      clash : (o : Option Field) (f : Field) → o ≡ None → o ≡ Some f → ⊥
+      clash o f p q = cc
+
+      by : (b : Bool) → (b ≡ true → e.0 ≡ q) → slot_in es q ≡ None → cond b (Some e.1) (slot_in es q) ≡ None
+      by true p ih = absurd (clash (field_in fields q) h.0.field none (ap (field_in fields) (sym (p refl)) ∙ h.0.known))
+      by false p ih = ih
+
+  -- ---- all records of a member of a oneof count
+
+  sets_none : (j q n : ℕ) (f : Field) (r : Record) → field_in fields n ≡ Some f → (n ≢ q → oneof_of (field_in fields n) ≢ Some j) → r.number ≡ n → sets_other fields j q r ≡ false
+  sets_none j q n f r known apart is = by (r.number == q) (eqb-false r.number q)
+    where
+      by : (b : Bool) → (b ≡ false → r.number ≢ q) → cond b false (counts_in j (field_in fields r.number) r.payload) ≡ false
+      by true p = refl
+      by false p =
+          let ne : n ≢ q = λ z. p refl (is ∙ z) in
+          let out : in_oneof j f.shape ≡ false = not_in_oneof f j (λ z. apart ne (ap oneof_of known ∙ z)) in
+          ap (λ (o : Option Field). counts_in j o r.payload) (ap (field_in fields) is ∙ known) ∙ ap (λ (b : Bool). b && counts f.kind r.payload) out
+
+  entry_sets_none : (j q n : ℕ) (f : Field) (rs : List Record) → field_in fields n ≡ Some f → (n ≢ q → oneof_of (field_in fields n) ≢ Some j) → AllByRecursion (λ (r : Record). r.number ≡ n) rs
+      → AllByRecursion (λ (r : Record). sets_other fields j q r ≡ false) rs
+  entry_sets_none j q n f [] known apart h = tt
+  entry_sets_none j q n f (r ∷ rs) known apart h = (sets_none j q n f r known apart h.0, entry_sets_none j q n f rs known apart h.1)
+
+  all_set_none : (j q : ℕ) (es : List (ℕ × Slot)) (h : AllByRecursion IsEntry es) → AllByRecursion (IsApart fields j q) es → AllByRecursion (λ (r : Record). sets_other fields j q r ≡ false) (found_records es h)
+  all_set_none j q [] h apart = tt
+  all_set_none j q (e ∷ es) h apart =
+      all_both (λ (r : Record). sets_other fields j q r ≡ false) h.0.recs.found (found_records es h.1)
+      (entry_sets_none j q e.0 h.0.field h.0.recs.found h.0.known apart.0 h.0.recs.numbers) (all_set_none j q es h.1 apart.1)
+
+  member_counted : (low j q : ℕ) (es : List (ℕ × Slot)) (h : AllByRecursion IsEntry es) (o : Option Slot) → slot_in es q ≡ o → RiseFrom low es → oneof_of (field_in fields q) ≡ Some j → AreApart nat_eq (oneofs_in fields es)
+      → payloads q (since (sets_other fields j q) (found_records es h)) ≡ payloads q (found_records es h)
+  member_counted low j q es h None at rise member apart =
+      let none = no_slot low q es h rise at in
+      none_since (sets_other fields j q) q (found_records es h) none ∙ sym none
+  member_counted low j q es h (Some s) at rise member apart =
+      ap (payloads q) (since_all (sets_other fields j q) (found_records es h) (all_set_none j q es h (others_apart fields j q s es at member apart)))
+
+  all_counted : (low q : ℕ) (f : Field) (es : List (ℕ × Slot)) (h : AllByRecursion IsEntry es) → RiseFrom low es → field_in fields q ≡ Some f → AreApart nat_eq (oneofs_in fields es)
+      → payloads q (counted fields q f.shape (found_records es h)) ≡ payloads q (found_records es h)
+  all_counted low q f es h rise known apart = by f.shape refl
+    where
+      by : (shape : Shape) → f.shape ≡ shape → payloads q (counted fields q shape (found_records es h)) ≡ payloads q (found_records es h)
+      by Single e = refl
+      by ManyOf e = refl
+      by (MapOf s) e = refl
+      by (Member j) e = member_counted low j q es h (slot_in es q) refl rise (ap oneof_of known ∙ oneof_is f (Member j) e) apart
+
+  -- the slots are those that were written
+  slots_again : (es : List (ℕ × Slot)) (h : AllByRecursion IsEntry es) → RiseFrom 0 es → AreApart nat_eq (oneofs_in fields es) → gather (slot_of meaning types fields (found_records es h)) fields ≡ es
+  slots_again es h rise apart =
+      same_slots (gather (slot_of meaning types fields (found_records es h)) fields) es 0 (gather_rises (slot_of meaning types fields (found_records es h)) fields (numbers_some types fields sound)) rise
+      (λ q. slot_in-gather (slot_of meaning types fields (found_records es h)) fields q ∙ each q (field_in fields q) refl)
+    where
+      each : (q : ℕ) (o : Option Field) → field_in fields q ≡ o → cond (is_some o) (slot_of meaning types fields (found_records es h) q) None ≡ slot_in es q
+      each q None e = sym (known_only q es h e)
+      each q (Some f) e =
+          ap (option_and_then (λ (g : Field). slot_by meaning types g.presence g.shape g.kind (payloads q (counted fields q g.shape (found_records es h))))) e
+          ∙ ap (slot_by meaning types f.presence f.shape f.kind) (all_counted 0 q f es h rise e apart) ∙ slot_again 0 q f es h rise e
+
+  pub record AreSlotsBack (es : List (ℕ × Slot)) : Type 0 where
+    pub value : gather (slot_of meaning types fields (records k 0 (slots_bytes sub fields es))) fields ≡ es
+    pub good : (place : ℕ) → records_fault check k place 0 (slots_bytes sub fields es) ≡ None
+
+  -- slots that are valid are read again
+  pub slots_back : (es : List (ℕ × Slot)) → RiseFrom 0 es → AreFieldSlots (valid_within k types) fields es → AreApart nat_eq (oneofs_in fields es) → HaveFieldLengths sub fields es → AreSlotsBack es
+  slots_back es rise valid apart l =
+      let h = all_entries es valid l in
+      record {
+        value = ap (λ (rs : List Record). gather (slot_of meaning types fields rs) fields) (all_found es h) ∙ slots_again es h rise apart;
+        good = λ place. no_fault check k place 0 (slots_bytes sub fields es) (all_whole es h) (subst (AllByRecursion (IsUnfaulted check k)) (sym (all_found es h)) (all_good es h));
+      }
