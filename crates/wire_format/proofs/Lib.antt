@@ -21,6 +21,12 @@ pub mod ItemReadLemmas
 pub mod EntryReadLemmas
 pub mod SlotReadLemmas
 pub mod RisingLemmas
+pub mod MemberLemmas
 pub mod MessageReadLemmas
 pub mod LengthLemmas
 pub mod RoundTrip
+pub mod RangeLemmas
+pub mod DecodedItemLemmas
+pub mod DecodedOneofLemmas
+pub mod CleanLemmas
+pub mod DecodedIsValid

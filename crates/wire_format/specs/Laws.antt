@@ -1,5 +1,6 @@
 -- Laws of bytes and values.
 use Rattle.std.specs.Prelude.{◌≡◌, ◌<◌, ◌^◌, ◌↔◌, ℕ, List, Ok, length}
+use Rattle.std.specs.List.{AllByRecursion}
 use Rattle.schema.specs.Soundness.{IsSound}
 use Rattle.schema.specs.Validity.{IsValid}
 use Rattle.schema.specs.declared.types.messages.TypeId.{TypeId}
@@ -16,6 +17,14 @@ HasOneValue = (types : Types) (id : TypeId) (bytes : List ℕ) (v w : Value) →
 -- bytes that have no fault, and what their records say, are exactly what is decoded
 abbrev pub DecodesWithoutFault : Type 0
 DecodesWithoutFault = (types : Types) (id : TypeId) (bytes : List ℕ) (v : Value) → decoding types id bytes ≡ Ok v ↔ DecodesTo types id bytes v
+
+-- each number of a list is a byte
+abbrev pub AreBytes : List ℕ → Type 0
+AreBytes bytes = AllByRecursion (λ (b : ℕ). b < 256) bytes
+
+-- what bytes decode to is valid
+abbrev pub DecodedValuesAreValid : Type 0
+DecodedValuesAreValid = (types : Types) (id : TypeId) (bytes : List ℕ) (v : Value) → IsSound types → AreBytes bytes → DecodesTo types id bytes v → IsValid types id v
 
 -- the canonical bytes of a valid value decode to that value, where each length in them has 64 bits
 abbrev pub CanonicalBytesDecode : Type 0

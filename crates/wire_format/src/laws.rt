@@ -1,5 +1,5 @@
 //! Laws that tie bytes and values together.
-ghost use Rattle.wire_format.specs.Laws.{CanonicalBytesDecode, DecodesWithoutFault, HasOneValue, ShortCanonicalBytesDecode};
+ghost use Rattle.wire_format.specs.Laws.{CanonicalBytesDecode, DecodedValuesAreValid, DecodesWithoutFault, HasOneValue, ShortCanonicalBytesDecode};
 
 /// Bytes are one value of a message type at most.
 pub fn one_value()
@@ -9,6 +9,12 @@ pub fn one_value()
 /// What is decoded are exactly the bytes without a fault, and their value is what their records say.
 pub fn decodes_without_fault()
     ensures { DecodesWithoutFault }
+{}
+
+/// What is decoded is valid: in range, in UTF-8, in at most 100 levels, with no default stored where
+/// absence says the same, and with one member of a oneof at most.
+pub fn decoded_values_are_valid()
+    ensures { DecodedValuesAreValid }
 {}
 
 /// What is written of a valid value is read as that value. Each length in it must have 64 bits, as it

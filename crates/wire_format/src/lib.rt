@@ -27,7 +27,10 @@ pub use encoder::encode;
 pub use examples::{canonical_examples, decoding_examples, map_examples};
 pub use fault::{DecodeFault, WireFault, WireKind};
 pub use groups::RawRecord;
-pub use laws::{canonical_bytes_decode_to_their_value, decodes_without_fault, one_value};
+pub use laws::{
+    canonical_bytes_decode_to_their_value, decoded_values_are_valid, decodes_without_fault,
+    one_value,
+};
 pub use payload::Payload;
 pub use records::{Record, Records, first_record};
 pub use sizes::encoded_len;
