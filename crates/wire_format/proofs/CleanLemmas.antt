@@ -42,7 +42,7 @@ module _ (check : ℕ → Record → Option Fault) (k : ℕ) where
   faultless_step place bs (Err e) h ih = absurd cc
   faultless_step place bs (Ok r) h ih = let n = no_first (check place r) (records_fault check k (place + 1) (r.size - 1) bs) h in ((place, n.0), ih (r.size - 1) n.1)
 
-  all_faultless : (place skip : ℕ) (bytes : List ℕ) → records_fault check k place skip bytes ≡ None → AllByRecursion IsFaultless (records k skip bytes)
+  pub all_faultless : (place skip : ℕ) (bytes : List ℕ) → records_fault check k place skip bytes ≡ None → AllByRecursion IsFaultless (records k skip bytes)
   all_faultless place skip [] h = tt
   all_faultless place (suc skip) (b ∷ bs) h = all_faultless (place + 1) skip bs h
   all_faultless place zero (b ∷ bs) h = faultless_step place bs (record_in k (b ∷ bs)) h (λ skip g. all_faultless (place + 1) skip bs g)
@@ -56,7 +56,7 @@ module _ (check : ℕ → Record → Option Fault) (k : ℕ) where
       let s = whole_stable k (b ∷ bs) [] r g in
       ih (r.size - 1) (omega (arith, s.2)) n.1
 
-  all_whole : (place skip : ℕ) (bytes : List ℕ) → skip ≤ length bytes → records_fault check k place skip bytes ≡ None → AreWhole k skip bytes
+  pub all_whole : (place skip : ℕ) (bytes : List ℕ) → skip ≤ length bytes → records_fault check k place skip bytes ≡ None → AreWhole k skip bytes
   all_whole place skip [] l h = omega arith
   all_whole place (suc skip) (b ∷ bs) l h = all_whole (place + 1) skip bs (omega arith) h
   all_whole place zero (b ∷ bs) l h = whole_step place b bs (record_in k (b ∷ bs)) refl h (λ skip m g. all_whole (place + 1) skip bs m g)
@@ -98,11 +98,11 @@ pub record IsCleanPayload (k : ℕ) (types : Types) (shape : Shape) (kind : Kind
   pub none : payload_fault (first_fault k types) types k shape kind place from p ≡ None
   pub ranged : IsRanged p
 
-not_chosen : (b : Bool) (f : Fault) (g : Option Fault) → cond b (Some f) g ≡ None → (b ≡ false) × (g ≡ None)
+pub not_chosen : (b : Bool) (f : Fault) (g : Option Fault) → cond b (Some f) g ≡ None → (b ≡ false) × (g ≡ None)
 not_chosen true f g h = absurd cc
 not_chosen false f g h = (refl, h)
 
-is_chosen : (b : Bool) (f : Fault) → cond b None (Some f) ≡ None → b ≡ true
+pub is_chosen : (b : Bool) (f : Fault) → cond b None (Some f) ≡ None → b ≡ true
 is_chosen true f h = refl
 is_chosen false f h = absurd cc
 

@@ -1,5 +1,5 @@
 -- What is decoded is valid: by levels, messages and entries of maps side by side.
-use Rattle.std.proofs.Common.{◌≡◌, ◌≢◌, ◌==◌, ◌&&◌, ◌||◌, ℕ, zero, suc, Bool, true, false, cond, nat_lt, nat_eq, List, [], ◌∷◌, ◌++◌, map, Option, Some, None, arith, refl, ap, sym, ◌∙◌, subst, append-nil, flat_map, filter_map, option_and_then, unwrap_or}
+use Rattle.std.proofs.Common.{◌≡◌, ◌≢◌, ◌==◌, ◌&&◌, ◌||◌, ℕ, zero, suc, Bool, true, false, nat_eq, List, [], ◌∷◌, ◌++◌, map, Option, Some, None, arith, refl, ap, sym, ◌∙◌, subst, append-nil, flat_map, filter_map, option_and_then, unwrap_or}
 use Rattle.std.specs.List.{AllByRecursion}
 use Rattle.schema.specs.Apart.{AreApart}
 use Rattle.schema.specs.Layers.{ItemLayer}
@@ -7,7 +7,7 @@ use Rattle.schema.specs.Pairs.{KeysRise}
 use Rattle.schema.specs.Soundness.{IsSound, IsSoundField, IsKeyKind, FitsShape}
 use Rattle.schema.specs.Types.{field_in, fields_of}
 use Rattle.schema.specs.Validity.{IsScalarItem, IsItem, IsStored, IsSlot, IsFieldSlot, AreFieldSlots, oneofs_in, key_item, valid_within, IsValid}
-use Rattle.schema.specs.Value.{with_slot, RiseFrom}
+use Rattle.schema.specs.Value.{RiseFrom}
 use Rattle.schema.specs.declared.key.Key.{Key}
 use Rattle.schema.specs.declared.value.Item.TheOpen.{Message, One, Many, Pairs as Entries}
 use Rattle.schema.specs.declared.value.Item.{out-Item, roll-Item, out-roll-Item, Item}
@@ -22,13 +22,13 @@ use Rattle.schema.specs.declared.types.fields.Shape.TheVariants.{Single, Member,
 use Rattle.schema.specs.declared.types.messages.TypeId.{TypeId}
 use Rattle.schema.specs.declared.types.messages.Types.{Types}
 use Rattle.wire_format.specs.Decoding.{DecodesTo}
-use Rattle.wire_format.specs.FieldValues.{payloads, sized_of, counted, stored, many, Inner, message_item, singular, items_of, default_item, entry_by, last_entries, entries_slot, pairs, slot_by, slot_of, with_some, gather, meaning_within}
+use Rattle.wire_format.specs.FieldValues.{payloads, sized_of, counted, stored, many, Inner, message_item, singular, items_of, default_item, entry_by, last_entries, entries_slot, pairs, slot_by, slot_of, gather, meaning_within}
 use Rattle.wire_format.specs.Laws.{AreBytes}
 use Rattle.wire_format.specs.Scalars.{scalar_of, default_of}
 use Rattle.wire_format.specs.WireFaults.{is_message, entry_field, entry_fields, field_fault, first_fault}
 use Rattle.wire_format.specs.WireRecord.{Record, Payload, number, eight, sized, group, four, records}
 use Rattle.wire_format.proofs.RangeLemmas.{IsRanged, records_ranged}
-use Rattle.wire_format.proofs.RisingLemmas.{gather_rises}
+use Rattle.wire_format.proofs.RisingLemmas.{gather_rises, gather_all}
 use Rattle.wire_format.proofs.MessageReadLemmas.{field_found, fields_sound, numbers_some}
 use Rattle.wire_format.proofs.DecodedItemLemmas.{scalar_valid, default_valid, key_valid, last_all, filter_all, flat_all, map_all, scalar_items_valid, entries_some, entries_rise, entries_all, stored_valid}
 use Rattle.wire_format.proofs.DecodedOneofLemmas.{oneofs_apart}
@@ -152,23 +152,6 @@ module _ (k : ℕ) (types : Types) (deeper : Validates k types) where
         (clean_payloads k types fields n f known (counted fields n f.shape rs) (counted_all (IsCleanRecord k types fields) fields n f.shape rs clean))
         (ap (option_and_then (λ (f : Field). slot_by meaning types f.presence f.shape f.kind (payloads n (counted fields n f.shape rs)))) (sym known) ∙ h)
 
-    with_all : (P : ℕ × Slot → Type 0) (es : List (ℕ × Slot)) (n : ℕ) (s : Slot) → AllByRecursion P es → P (n, s) → AllByRecursion P (with_slot es n s)
-    with_all P [] n s h g = (g, tt)
-    with_all P (e ∷ es) n s h g = by (nat_lt e.0 n) (e.0 == n) (with_all P es n s h.1 g)
-      where
-        by : (b c : Bool) → AllByRecursion P (with_slot es n s) → AllByRecursion P (cond b (e ∷ with_slot es n s) (cond c ((n, s) ∷ es) ((n, s) ∷ e ∷ es)))
-        by true c i = (h.0, i)
-        by false true i = (g, h.1)
-        by false false i = (g, (h.0, h.1))
-
-    gather_all : (P : ℕ × Slot → Type 0) (fs : List Field) → ((n : ℕ) (s : Slot) → slot n ≡ Some s → P (n, s)) → AllByRecursion P (gather slot fs)
-    gather_all P [] h = tt
-    gather_all P (f ∷ fs) h = by (slot f.number) refl (gather_all P fs h)
-      where
-        by : (o : Option Slot) → slot f.number ≡ o → AllByRecursion P (gather slot fs) → AllByRecursion P (with_some (gather slot fs) f.number o)
-        by None e i = i
-        by (Some s) e i = with_all P (gather slot fs) f.number s i (h f.number s e)
-
     pub record AreValidSlots (es : List (ℕ × Slot)) : Type 0 where
       pub rising : RiseFrom 0 es
       pub slots : AreFieldSlots (valid_within k types) fields es
@@ -179,8 +162,8 @@ module _ (k : ℕ) (types : Types) (deeper : Validates k types) where
         let rising = gather_rises slot fields (numbers_some types fields sound) in
         record {
           rising = rising;
-          slots = gather_all (λ (e : ℕ × Slot). IsFieldSlot (valid_within k types) (field_in fields e.0) e.1) fields (λ n s h. field_valid n (field_in fields n) s refl h);
-          oneofs = oneofs_apart meaning types fields rs 0 (gather slot fields) rising (gather_all (λ (e : ℕ × Slot). slot e.0 ≡ Some e.1) fields (λ n s h. h));
+          slots = gather_all (λ (e : ℕ × Slot). IsFieldSlot (valid_within k types) (field_in fields e.0) e.1) slot fields (λ n s h. field_valid n (field_in fields n) s refl h);
+          oneofs = oneofs_apart meaning types fields rs 0 (gather slot fields) rising (gather_all (λ (e : ℕ × Slot). slot e.0 ≡ Some e.1) slot fields (λ n s h. h));
         }
 
   -- ---- an entry

@@ -20,7 +20,7 @@ use Rattle.wire_format.proofs.MemberLemmas.{oneof_is, singular_some, stored_some
 -- ---- tests on lists
 
 -- one that passes one test passes the other
-some_up : {A : Type 0} (p q : A → Bool) → ((x : A) → p x ≡ true → q x ≡ true) → (xs : List A) → some_of p xs ≡ true → some_of q xs ≡ true
+pub some_up : {A : Type 0} (p q : A → Bool) → ((x : A) → p x ≡ true → q x ≡ true) → (xs : List A) → some_of p xs ≡ true → some_of q xs ≡ true
 some_up p q up [] h = h
 some_up p q up (x ∷ xs) h = by (p x) refl h (λ g. some_up p q up xs g)
   where
@@ -33,7 +33,7 @@ some_up p q up (x ∷ xs) h = by (p x) refl h (λ g. some_up p q up xs g)
     by false e g ih = right (q x) (some_of q xs) (ih g)
 
 -- what stands behind is of the list
-some_since : {A : Type 0} (p q : A → Bool) (xs : List A) → some_of q (since p xs) ≡ true → some_of q xs ≡ true
+pub some_since : {A : Type 0} (p q : A → Bool) (xs : List A) → some_of q (since p xs) ≡ true → some_of q xs ≡ true
 some_since p q [] h = h
 some_since p q (x ∷ xs) h = by (some_of p (x ∷ xs)) h (some_since p q xs)
   where
@@ -63,7 +63,7 @@ not_both p q a b up vp (x ∷ xs) h g = by (some_of p (x ∷ xs)) (some_of q (x 
 
 module _ (inner : Inner) (types : Types) where
   -- a record of number `n` that counts for this kind
-  abbrev is_counted : ℕ → Kind → Record → Bool
+  abbrev pub is_counted : ℕ → Kind → Record → Bool
   is_counted n kind r = r.number == n && counts kind r.payload
 
   record_some : (n : ℕ) (kind : Kind) (rs : List Record) → some_of (counts kind) (payloads n rs) ≡ true → some_of (is_counted n kind) rs ≡ true
@@ -82,10 +82,11 @@ module _ (inner : Inner) (types : Types) where
   -- ---- the members of a oneof
 
   module _ (fields : List Field) (rs : List Record) (k : ℕ) where
-    record IsMember (n : ℕ) : Type 0 where
-      field : Field
-      known : field_in fields n ≡ Some field
-      shape : field.shape ≡ Member k
+    -- the field of a number is a member of the oneof
+    pub record IsMember (n : ℕ) : Type 0 where
+      pub field : Field
+      pub known : field_in fields n ≡ Some field
+      pub shape : field.shape ≡ Member k
 
     some_ℕ : (x y : ℕ) → ◌≡◌ {A = Option ℕ} (Some x) (Some y) → x ≡ y
     some_ℕ x y e = cc
@@ -93,7 +94,7 @@ module _ (inner : Inner) (types : Types) where
     no_member : (o : Option ℕ) → o ≡ None → o ≡ Some k → ⊥
     no_member o p q = cc
 
-    member_is : (n : ℕ) (o : Option Field) → field_in fields n ≡ o → oneof_of o ≡ Some k → IsMember n
+    pub member_is : (n : ℕ) (o : Option Field) → field_in fields n ≡ o → oneof_of o ≡ Some k → IsMember n
     member_is n None known h = absurd cc
     member_is n (Some f) known h = by f.shape refl
       where
@@ -104,7 +105,7 @@ module _ (inner : Inner) (types : Types) where
         by (MapOf s) e = absurd (no_member (oneof_of (Some f)) (oneof_is f (MapOf s) e) h)
 
     -- a member that has a slot has a record that counts behind the last that sets another
-    member_counts : (n : ℕ) (m : IsMember n) (s : Slot) → slot_of inner types fields rs n ≡ Some s → some_of (is_counted n m.field.kind) (since (sets_other fields k n) rs) ≡ true
+    pub member_counts : (n : ℕ) (m : IsMember n) (s : Slot) → slot_of inner types fields rs n ≡ Some s → some_of (is_counted n m.field.kind) (since (sets_other fields k n) rs) ≡ true
     member_counts n m s h =
         let f = m.field in
         let at : slot_by inner types f.presence (Member k) f.kind (payloads n (counted fields n (Member k) rs)) ≡ Some s =
@@ -114,7 +115,7 @@ module _ (inner : Inner) (types : Types) where
         record_some n f.kind (since (sets_other fields k n) rs) (singular_some inner types f.kind (payloads n (since (sets_other fields k n) rs)) i.0 i.1)
 
     -- such a record sets another than each other number
-    counts_sets : (n m : ℕ) (x : IsMember n) → n ≢ m → (r : Record) → is_counted n x.field.kind r ≡ true → sets_other fields k m r ≡ true
+    pub counts_sets : (n m : ℕ) (x : IsMember n) → n ≢ m → (r : Record) → is_counted n x.field.kind r ≡ true → sets_other fields k m r ≡ true
     counts_sets n m x ne r h =
         let b = both (r.number == n) (counts x.field.kind r.payload) h in
         let is : r.number ≡ n = eqb-true r.number n b.0 in

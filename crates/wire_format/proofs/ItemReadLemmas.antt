@@ -76,7 +76,7 @@ module _ (sub : TypeId → Value → List ℕ) where
 
 -- ---- payloads that are no bytes
 
-abbrev IsPlain : Payload → Type 0
+abbrev pub IsPlain : Payload → Type 0
 IsPlain (sized bs) = ⊥
 IsPlain _ = Unit {0}
 
@@ -95,7 +95,7 @@ IsNoMap (MapOf s) = ⊥
 IsNoMap _ = Unit {0}
 
 module _ (inner : List Field → ℕ → List ℕ → Option Fault) (types : Types) (k : ℕ) (place from : ℕ) where
-  plain_fault : (shape : Shape) (kind : Kind) (p : Payload) → IsPlain p → payload_fault inner types k shape kind place from p ≡ None
+  pub plain_fault : (shape : Shape) (kind : Kind) (p : Payload) → IsPlain p → payload_fault inner types k shape kind place from p ≡ None
   plain_fault (MapOf s) (OneOf t) (sized bs) h = absurd h
   plain_fault (MapOf s) (OneOf t) _ h = refl
   plain_fault (MapOf s) (MessageOf id) (sized bs) h = absurd h

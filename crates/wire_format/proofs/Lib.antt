@@ -30,3 +30,8 @@ pub mod DecodedItemLemmas
 pub mod DecodedOneofLemmas
 pub mod CleanLemmas
 pub mod DecodedIsValid
+pub mod MergeSlotLemmas
+pub mod MergeMessageLemmas
+pub mod FaultPlaceLemmas
+pub mod KeptLemmas
+pub mod MergedBytes

@@ -125,7 +125,7 @@ not_in_oneof f k h = by f.shape refl
 -- ---- a slot has a record that counts
 
 -- where nothing fits, nothing is left
-fits : {A B : Type 0} (f : A → Option B) (xs : List A) → filter_map f xs ≢ [] → some_of (λ (x : A). is_some (f x)) xs ≡ true
+pub fits : {A B : Type 0} (f : A → Option B) (xs : List A) → filter_map f xs ≢ [] → some_of (λ (x : A). is_some (f x)) xs ≡ true
 fits {A = A} {B = B} f [] h = absurd (h refl)
 fits {A = A} {B = B} f (x ∷ xs) h = by (f x) h (fits f xs)
   where

@@ -6,7 +6,7 @@ use Rattle.std.proofs.lemmas.List.Concat.{flat_map-cons}
 use Rattle.schema.specs.Apart.{AreApart}
 use Rattle.schema.specs.Soundness.{IsSound, IsSoundMessage, IsSoundField}
 use Rattle.schema.specs.Types.{field_in, fields_of}
-use Rattle.schema.specs.Validity.{IsFieldSlot, AreFieldSlots, oneof_of, oneofs_in, valid_within}
+use Rattle.schema.specs.Validity.{IsFieldSlot, AreFieldSlots, oneof_of, oneofs_in, valid_within, IsSlot}
 use Rattle.schema.specs.Value.{RiseFrom, slot_in}
 use Rattle.schema.specs.declared.value.Slot.{Slot, out-Slot, roll-out-Slot}
 use Rattle.schema.specs.declared.value.Value.{Value}
@@ -22,7 +22,7 @@ use Rattle.schema.specs.declared.types.messages.Types.{Types}
 use Rattle.wire_format.specs.CanonicalBytes.{field_bytes, slots_bytes}
 use Rattle.wire_format.specs.FieldValues.{Inner, payloads, since, counts, in_oneof, counts_in, sets_other, counted, slot_by, slot_of, gather, meaning_within}
 use Rattle.wire_format.specs.GoodBytes.{AreWhole}
-use Rattle.wire_format.specs.PayloadLengths.{HasFieldLengths, HaveFieldLengths}
+use Rattle.wire_format.specs.PayloadLengths.{HasFieldLengths, HaveFieldLengths, HasSlotLengths}
 use Rattle.wire_format.specs.WireFaults.{Fault, payload_fault, field_fault, records_fault, first_fault}
 use Rattle.wire_format.specs.WireRecord.{Record, Payload, records}
 use Rattle.wire_format.proofs.StableLemmas.{records_joined, whole_joined}
@@ -75,24 +75,25 @@ module _ (k : ℕ) (types : Types) (sub : TypeId → Value → List ℕ) (deeper
   abbrev check : ℕ → Record → Option Fault
   check at r = field_fault (first_fault k types) types k (field_in fields r.number) at r
 
-  record IsEntry (e : ℕ × Slot) : Type 0 where
-    field : Field
-    known : field_in fields e.0 ≡ Some field
-    ps : List Payload
-    recs : AreRecordsOf k e.0 (bytes_of e) ps
-    slot : slot_by meaning types field.presence field.shape field.kind ps ≡ Some e.1
-    good : AllByRecursion (λ (p : Payload). (place from : ℕ) → payload_fault (first_fault k types) types k field.shape field.kind place from p ≡ None) ps
+  -- a slot that is valid, with the records that were written of it
+  pub record IsEntry (e : ℕ × Slot) : Type 0 where
+    pub field : Field
+    pub known : field_in fields e.0 ≡ Some field
+    pub valid : IsSlot (valid_within k types) field field.shape (out-Slot e.1)
+    pub short : HasSlotLengths sub field field.shape (out-Slot e.1)
+    pub back : IsSlotBack k types sub deeper field field.shape (out-Slot e.1)
+    pub recs : AreRecordsOf k e.0 (bytes_of e) back.ps
 
-  entry_of : (e : ℕ × Slot) (f : Field) → field_in fields e.0 ≡ Some f → IsFound types e.0 f → IsSlotBack k types sub deeper f f.shape (out-Slot e.1) → IsEntry e
-  entry_of e f known found b =
+  entry_of : (e : ℕ × Slot) (f : Field) → field_in fields e.0 ≡ Some f → IsFound types e.0 f → IsSlot (valid_within k types) f f.shape (out-Slot e.1) → HasSlotLengths sub f f.shape (out-Slot e.1) → IsSlotBack k types sub deeper f f.shape (out-Slot e.1) → IsEntry e
+  entry_of e f known found h l b =
       let bytes : bytes_of e ≡ field_bytes sub (Some f) e.1 = ap (λ (o : Option Field). field_bytes sub o e.1) known in
       record {
         field = f;
         known = known;
-        ps = b.ps;
+        valid = h;
+        short = l;
+        back = b;
         recs = subst (λ (bs : List ℕ). AreRecordsOf k e.0 bs b.ps) (sym bytes) (subst (λ (n : ℕ). AreRecordsOf k n (field_bytes sub (Some f) e.1) b.ps) found.number b.recs);
-        slot = b.slot ∙ ap (λ (s : Slot). Some s) (roll-out-Slot e.1);
-        good = b.good;
       }
 
   entry_is : (e : ℕ × Slot) (o : Option Field) → field_in fields e.0 ≡ o → IsFieldSlot (valid_within k types) o e.1 → HasFieldLengths sub o e.1 → IsEntry e
@@ -100,13 +101,13 @@ module _ (k : ℕ) (types : Types) (sub : TypeId → Value → List ℕ) (deeper
   entry_is e (Some f) known h l =
       let found = field_found types fields e.0 f sound known in
       let high : f.number ≤ 536870911 = found.sound.high in
-      entry_of e f known found (slot_back k types sub deeper f found.sound.low (omega arith) (λ p. (found.sound.packed p).1) f.shape (out-Slot e.1) h l)
+      entry_of e f known found h l (slot_back k types sub deeper f found.sound.low (omega arith) (λ p. (found.sound.packed p).1) f.shape (out-Slot e.1) h l)
 
-  all_entries : (es : List (ℕ × Slot)) → AreFieldSlots (valid_within k types) fields es → HaveFieldLengths sub fields es → AllByRecursion IsEntry es
+  pub all_entries : (es : List (ℕ × Slot)) → AreFieldSlots (valid_within k types) fields es → HaveFieldLengths sub fields es → AllByRecursion IsEntry es
   all_entries [] h l = tt
   all_entries (e ∷ es) h l = (entry_is e (field_in fields e.0) refl h.0 l.0, all_entries es h.1 l.1)
 
-  abbrev found_records : (es : List (ℕ × Slot)) → AllByRecursion IsEntry es → List Record
+  abbrev pub found_records : (es : List (ℕ × Slot)) → AllByRecursion IsEntry es → List Record
   found_records [] h = []
   found_records (e ∷ es) h = h.0.recs.found ++ found_records es h.1
 
@@ -114,7 +115,7 @@ module _ (k : ℕ) (types : Types) (sub : TypeId → Value → List ℕ) (deeper
   all_whole [] h = refl
   all_whole (e ∷ es) h = subst (AreWhole k 0) (sym (flat_map-cons bytes_of e es)) (whole_joined k 0 (bytes_of e) (slots_bytes sub fields es) h.0.recs.whole (all_whole es h.1))
 
-  all_found : (es : List (ℕ × Slot)) (h : AllByRecursion IsEntry es) → records k 0 (slots_bytes sub fields es) ≡ found_records es h
+  pub all_found : (es : List (ℕ × Slot)) (h : AllByRecursion IsEntry es) → records k 0 (slots_bytes sub fields es) ≡ found_records es h
   all_found [] h = refl
   all_found (e ∷ es) h =
       ap (records k 0) (flat_map-cons bytes_of e es) ∙ records_joined k 0 (bytes_of e) (slots_bytes sub fields es) h.0.recs.whole
@@ -134,7 +135,7 @@ module _ (k : ℕ) (types : Types) (sub : TypeId → Value → List ℕ) (deeper
       let x = h.0 in
       all_both (IsUnfaulted check k) x.recs.found (found_records es h.1)
       (records_good e.0 x.field x.recs.found x.known x.recs.numbers
-      (payloads_all (λ (p : Payload). (place from : ℕ) → payload_fault (first_fault k types) types k x.field.shape x.field.kind place from p ≡ None) x.recs.found x.ps x.recs.payloads x.good))
+      (payloads_all (λ (p : Payload). (place from : ℕ) → payload_fault (first_fault k types) types k x.field.shape x.field.kind place from p ≡ None) x.recs.found x.back.ps x.recs.payloads x.back.good))
       (all_good es h.1)
 
   -- ---- what each number has
@@ -147,21 +148,21 @@ module _ (k : ℕ) (types : Types) (sub : TypeId → Value → List ℕ) (deeper
       ∙ ap₂ (λ (xs ys : List Payload). xs ++ ys) (payloads_other e.0 q h.0.recs.found (λ z. absurd (omega arith)) h.0.recs.numbers) (none_left e.0 q es h.1 rise.1 (omega arith))
 
   -- of the number of the first slot there are its payloads alone
-  head_found : (e : ℕ × Slot) (es : List (ℕ × Slot)) (h : AllByRecursion IsEntry (e ∷ es)) (q : ℕ) → RiseFrom e.0 es → e.0 ≡ q → payloads q (found_records (e ∷ es) h) ≡ h.0.ps
+  pub head_found : (e : ℕ × Slot) (es : List (ℕ × Slot)) (h : AllByRecursion IsEntry (e ∷ es)) (q : ℕ) → RiseFrom e.0 es → e.0 ≡ q → payloads q (found_records (e ∷ es) h) ≡ h.0.back.ps
   head_found e es h q rise same =
       payloads-append q h.0.recs.found (found_records es h.1)
       ∙ ap₂ (λ (xs ys : List Payload). xs ++ ys)
       (ap (λ (n : ℕ). payloads n h.0.recs.found) (sym same) ∙ payloads_same e.0 h.0.recs.found h.0.recs.numbers ∙ h.0.recs.payloads)
       (none_left e.0 q es h.1 rise (omega arith))
-      ∙ append-nil h.0.ps
+      ∙ append-nil h.0.back.ps
 
   -- of another number there is none of the first slot
-  tail_found : (e : ℕ × Slot) (es : List (ℕ × Slot)) (h : AllByRecursion IsEntry (e ∷ es)) (q : ℕ) → e.0 ≢ q → payloads q (found_records (e ∷ es) h) ≡ payloads q (found_records es h.1)
+  pub tail_found : (e : ℕ × Slot) (es : List (ℕ × Slot)) (h : AllByRecursion IsEntry (e ∷ es)) (q : ℕ) → e.0 ≢ q → payloads q (found_records (e ∷ es) h) ≡ payloads q (found_records es h.1)
   tail_found e es h q ne =
       payloads-append q h.0.recs.found (found_records es h.1)
       ∙ ap (λ (xs : List Payload). xs ++ payloads q (found_records es h.1)) (payloads_other e.0 q h.0.recs.found ne h.0.recs.numbers)
 
-  no_slot : (low q : ℕ) (es : List (ℕ × Slot)) (h : AllByRecursion IsEntry es) → RiseFrom low es → slot_in es q ≡ None → payloads q (found_records es h) ≡ []
+  pub no_slot : (low q : ℕ) (es : List (ℕ × Slot)) (h : AllByRecursion IsEntry es) → RiseFrom low es → slot_in es q ≡ None → payloads q (found_records es h) ≡ []
   no_slot low q [] h rise none = refl
   no_slot low q (e ∷ es) h rise none = by (e.0 == q) (eqb-false e.0 q) none (no_slot e.0 q es h.1 rise.1)
     where
@@ -169,7 +170,26 @@ module _ (k : ℕ) (types : Types) (sub : TypeId → Value → List ℕ) (deeper
       by true p none ih = absurd cc
       by false p none ih = tail_found e es h q (p refl) ∙ ih none
 
-  slot_none : (presence : Presence) (shape : Shape) (kind : Kind) → slot_by meaning types presence shape kind [] ≡ None
+  -- the slot of a number, with the payloads that were written of it
+  pub record IsEntryAt (q : ℕ) (s : Slot) (ps : List Payload) : Type 0 where
+    pub entry : ℕ × Slot
+    pub is : IsEntry entry
+    pub number : entry.0 ≡ q
+    pub slot : entry.1 ≡ s
+    pub written : ps ≡ is.back.ps
+
+  pub entry_at : (q low : ℕ) (es : List (ℕ × Slot)) (h : AllByRecursion IsEntry es) → RiseFrom low es → (s : Slot) → slot_in es q ≡ Some s → IsEntryAt q s (payloads q (found_records es h))
+  entry_at q low [] h rise s at = absurd cc
+  entry_at q low (e ∷ es) h rise s at = by (e.0 == q) (eqb-true e.0 q) (eqb-false e.0 q) at (λ d. entry_at q e.0 es h.1 rise.1 s d)
+    where
+      slot_is : (x y : Slot) → ◌≡◌ {A = Option Slot} (Some x) (Some y) → x ≡ y
+      slot_is x y e = cc
+
+      by : (b : Bool) → (b ≡ true → e.0 ≡ q) → (b ≡ false → e.0 ≢ q) → cond b (Some e.1) (slot_in es q) ≡ Some s → (slot_in es q ≡ Some s → IsEntryAt q s (payloads q (found_records es h.1))) → IsEntryAt q s (payloads q (found_records (e ∷ es) h))
+      by true p r at ih = record { entry = e; is = h.0; number = p refl; slot = slot_is e.1 s at; written = head_found e es h q rise.1 (p refl) }
+      by false p r at ih = subst (IsEntryAt q s) (sym (tail_found e es h q (r refl))) (ih at)
+
+  pub slot_none : (presence : Presence) (shape : Shape) (kind : Kind) → slot_by meaning types presence shape kind [] ≡ None
   slot_none presence Single (OneOf s) = refl
   slot_none presence Single (MessageOf id) = refl
   slot_none presence (Member j) (OneOf s) = refl
@@ -190,7 +210,7 @@ module _ (k : ℕ) (types : Types) (sub : TypeId → Value → List ℕ) (deeper
       by true p r ih =
           let same : h.0.field ≡ f = some_is h.0.field f (sym h.0.known ∙ ap (field_in fields) (p refl) ∙ known) in
           ap (slot_by meaning types f.presence f.shape f.kind) (head_found e es h q rise.1 (p refl))
-          ∙ ap (λ (g : Field). slot_by meaning types g.presence g.shape g.kind h.0.ps) (sym same) ∙ h.0.slot
+          ∙ ap (λ (g : Field). slot_by meaning types g.presence g.shape g.kind h.0.back.ps) (sym same) ∙ h.0.back.slot ∙ ap (λ (x : Slot). Some x) (roll-out-Slot e.1)
       by false p r ih = ap (slot_by meaning types f.presence f.shape f.kind) (tail_found e es h q (r refl)) ∙ ih
 
   known_only : (q : ℕ) (es : List (ℕ × Slot)) (h : AllByRecursion IsEntry es) → field_in fields q ≡ None → slot_in es q ≡ None
@@ -221,7 +241,7 @@ module _ (k : ℕ) (types : Types) (sub : TypeId → Value → List ℕ) (deeper
   entry_sets_none j q n f [] known apart h = tt
   entry_sets_none j q n f (r ∷ rs) known apart h = (sets_none j q n f r known apart h.0, entry_sets_none j q n f rs known apart h.1)
 
-  all_set_none : (j q : ℕ) (es : List (ℕ × Slot)) (h : AllByRecursion IsEntry es) → AllByRecursion (IsApart fields j q) es → AllByRecursion (λ (r : Record). sets_other fields j q r ≡ false) (found_records es h)
+  pub all_set_none : (j q : ℕ) (es : List (ℕ × Slot)) (h : AllByRecursion IsEntry es) → AllByRecursion (IsApart fields j q) es → AllByRecursion (λ (r : Record). sets_other fields j q r ≡ false) (found_records es h)
   all_set_none j q [] h apart = tt
   all_set_none j q (e ∷ es) h apart =
       all_both (λ (r : Record). sets_other fields j q r ≡ false) h.0.recs.found (found_records es h.1)
@@ -246,7 +266,7 @@ module _ (k : ℕ) (types : Types) (sub : TypeId → Value → List ℕ) (deeper
       by (Member j) e = member_counted low j q es h (slot_in es q) refl rise (ap oneof_of known ∙ oneof_is f (Member j) e) apart
 
   -- the slots are those that were written
-  slots_again : (es : List (ℕ × Slot)) (h : AllByRecursion IsEntry es) → RiseFrom 0 es → AreApart nat_eq (oneofs_in fields es) → gather (slot_of meaning types fields (found_records es h)) fields ≡ es
+  pub slots_again : (es : List (ℕ × Slot)) (h : AllByRecursion IsEntry es) → RiseFrom 0 es → AreApart nat_eq (oneofs_in fields es) → gather (slot_of meaning types fields (found_records es h)) fields ≡ es
   slots_again es h rise apart =
       same_slots (gather (slot_of meaning types fields (found_records es h)) fields) es 0 (gather_rises (slot_of meaning types fields (found_records es h)) fields (numbers_some types fields sound)) rise
       (λ q. slot_in-gather (slot_of meaning types fields (found_records es h)) fields q ∙ each q (field_in fields q) refl)

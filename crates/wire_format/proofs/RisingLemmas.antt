@@ -1,9 +1,9 @@
 -- Slots by rising number are what they have at each number.
-use Rattle.std.proofs.Common.{◌≡◌, ◌≢◌, ◌<◌, ◌≤◌, ◌==◌, ℕ, Bool, true, false, List, [], ◌∷◌, cond, Option, Some, None, arith, refl, ap, ap₂, sym, subst, ◌∙◌, inl, inr, ◌⊎◌, is_some}
+use Rattle.std.proofs.Common.{◌≡◌, ◌≢◌, ◌<◌, ◌≤◌, ◌==◌, ℕ, Bool, true, false, List, [], ◌∷◌, cond, Option, Some, None, arith, refl, ap, ap₂, sym, subst, ◌∙◌, inl, inr, ◌⊎◌, is_some, nat_lt}
 use Rattle.std.specs.List.{AllByRecursion}
 use Rattle.std.proofs.lemmas.Bool.{eqb-true, eq-eqb, cases_lt}
 use Rattle.schema.specs.Types.{field_in}
-use Rattle.schema.specs.Value.{slot_in, RiseFrom}
+use Rattle.schema.specs.Value.{slot_in, RiseFrom, with_slot}
 use Rattle.schema.specs.declared.types.fields.Field.{Field}
 use Rattle.schema.specs.declared.value.Slot.{Slot}
 use Rattle.schema.proofs.SlotLemmas.{slot_in-with_slot, RiseFrom-with_slot}
@@ -70,3 +70,26 @@ gather_step slot f es q (Some s) g false p t e k = slot_in-with_slot es f.number
 pub slot_in-gather : (slot : ℕ → Option Slot) (fs : List Field) (q : ℕ) → slot_in (gather slot fs) q ≡ cond (is_some (field_in fs q)) (slot q) None
 slot_in-gather slot [] q = refl
 slot_in-gather slot (f ∷ fs) q = gather_step slot f (gather slot fs) q (slot f.number) (field_in fs q) (f.number == q) (eqb-true f.number q) refl refl (slot_in-gather slot fs q)
+
+with_all : (P : ℕ × Slot → Type 0) (es : List (ℕ × Slot)) (n : ℕ) (s : Slot) → AllByRecursion P es → P (n, s) → AllByRecursion P (with_slot es n s)
+with_all P [] n s h g = (g, tt)
+with_all P (e ∷ es) n s h g = by (nat_lt e.0 n) (e.0 == n) (with_all P es n s h.1 g)
+  where
+    by : (b c : Bool) → AllByRecursion P (with_slot es n s) → AllByRecursion P (cond b (e ∷ with_slot es n s) (cond c ((n, s) ∷ es) ((n, s) ∷ e ∷ es)))
+    by true c i = (h.0, i)
+    by false true i = (g, h.1)
+    by false false i = (g, (h.0, h.1))
+
+-- what holds of each slot holds of all that are gathered
+pub gather_all : (P : ℕ × Slot → Type 0) (slot : ℕ → Option Slot) (fs : List Field) → ((n : ℕ) (s : Slot) → slot n ≡ Some s → P (n, s)) → AllByRecursion P (gather slot fs)
+gather_all P slot [] h = tt
+gather_all P slot (f ∷ fs) h = by (slot f.number) refl (gather_all P slot fs h)
+  where
+    by : (o : Option Slot) → slot f.number ≡ o → AllByRecursion P (gather slot fs) → AllByRecursion P (with_some (gather slot fs) f.number o)
+    by None e i = i
+    by (Some s) e i = with_all P (gather slot fs) f.number s i (h f.number s e)
+
+-- slots that are the same at each number
+pub gather_same : (s t : ℕ → Option Slot) (fs : List Field) → ((q : ℕ) → s q ≡ t q) → gather s fs ≡ gather t fs
+gather_same s t [] h = refl
+gather_same s t (f ∷ fs) h = ap₂ (λ (es : List (ℕ × Slot)) (o : Option Slot). with_some es f.number o) (gather_same s t fs h) (h f.number)

@@ -21,7 +21,7 @@ use Rattle.wire_format.proofs.MessageReadLemmas.{fields_sound, slots_back}
 
 module _ (types : Types) (sound : IsSound types) where
   -- a message whose slots are read back is
-  message_back : (k : ℕ) (sub : TypeId → Value → List ℕ) → ReadsBack k types sub → (id : TypeId) (v : Value) → (valid_within (suc k) types).message id v → HaveFieldLengths sub (fields_of types id) (slots_of v)
+  pub message_back : (k : ℕ) (sub : TypeId → Value → List ℕ) → ReadsBack k types sub → (id : TypeId) (v : Value) → (valid_within (suc k) types).message id v → HaveFieldLengths sub (fields_of types id) (slots_of v)
       → IsMessageBack (suc k) types id (slots_bytes sub (fields_of types id) (slots_of v)) v
   unfolding valid_within meaning_within first_fault
   message_back k sub deeper id v h l =
@@ -33,7 +33,7 @@ module _ (types : Types) (sound : IsSound types) where
       }
 
   -- what is valid in so many levels is read back from the canonical bytes of as many, or more
-  reads_back : (k n : ℕ) → k ≤ n → ReadsBack k types (canonical_within n types)
+  pub reads_back : (k n : ℕ) → k ≤ n → ReadsBack k types (canonical_within n types)
   unfolding valid_within canonical_within
   reads_back zero n l = record { message = λ id v h. absurd h; entry = λ s kind e h. absurd h }
   reads_back (suc k) zero l = absurd (omega arith)

@@ -171,6 +171,7 @@ module _ (k : ℕ) (types : Types) (sub : TypeId → Value → List ℕ) (deeper
     pub recs : AreRecordsOf k f.number (slot_bytes sub f shape l) ps
     pub slot : slot_by meaning types f.presence shape f.kind ps ≡ Some (roll-Slot l)
     pub good : AllByRecursion (λ (p : Payload). (place from : ℕ) → payload_fault fault types k shape f.kind place from p ≡ None) ps
+    pub single : (i : Item) → l ≡ One i → ps ≡ item_payload sub f.kind (out-Item i) ∷ []
 
   module _ (f : Field) (some : 0 < f.number) (small : f.number < 2 ^ 29) where
     one_records : (i : Item) → IsItem (valid_within k types) f.kind (out-Item i) → HasItemLength sub f.kind (out-Item i) → AreRecordsOf k f.number (record_bytes sub f.number f.kind i) (item_payload sub f.kind (out-Item i) ∷ [])
@@ -262,7 +263,11 @@ module _ (k : ℕ) (types : Types) (sub : TypeId → Value → List ℕ) (deeper
       recs = records_each k f.number (entry_record sub f.number s f.kind) (λ (e : Key × Item). sized (entry_bytes sub s f.kind e)) es (entry_records s es l);
       slot = ap pairs (entries_again s es h.2 l) ∙ ap entries_slot (last_of_rising es h.1) ∙ entries_rolled es h.0;
       good = entries_good s es h.2 l;
+      single = λ i e. absurd cc;
     }
+
+    one_payload : (i j : Item) → ◌≡◌ {A = SlotLayer} (One i) (One j) → item_payload sub f.kind (out-Item i) ∷ [] ≡ item_payload sub f.kind (out-Item j) ∷ []
+    one_payload i j e = let same : i ≡ j = cc in ap (λ (x : Item). item_payload sub f.kind (out-Item x) ∷ []) same
 
     -- all shapes
     pub slot_back : (packed : f.packed ≡ true → IsPackable f.kind) (shape : Shape) (l : SlotLayer) → IsSlot (valid_within k types) f shape l → HasSlotLengths sub f shape l → IsSlotBack f shape l
@@ -271,15 +276,17 @@ module _ (k : ℕ) (types : Types) (sub : TypeId → Value → List ℕ) (deeper
       recs = one_records i h.0 g;
       slot = one_slot i h.0 h.1 g;
       good = (item_good k types sub deeper Single tt f.kind (out-Item i) h.0 g, tt);
+      single = λ j e. one_payload i j e;
     }
     slot_back packed (Member j) (One i) h g = record {
       ps = item_payload sub f.kind (out-Item i) ∷ [];
       recs = one_records i h.0 g;
       slot = one_slot i h.0 h.1 g;
       good = (item_good k types sub deeper (Member j) tt f.kind (out-Item i) h.0 g, tt);
+      single = λ n e. one_payload i n e;
     }
     slot_back packed ManyOf (Many is) h g =
         let x = list_is f.packed is packed h.0 h.1 g in
-        record { ps = x.0; recs = x.1; slot = x.2; good = x.3 }
+        record { ps = x.0; recs = x.1; slot = x.2; good = x.3; single = λ i e. absurd cc }
     slot_back packed (MapOf s) (Entries p) h g = map_is s p.entries h g
     slot_back packed _ _ h g = absurd h

@@ -1,13 +1,16 @@
 -- Laws of bytes and values.
-use Rattle.std.specs.Prelude.{◌≡◌, ◌<◌, ◌^◌, ◌↔◌, ℕ, List, Ok, length}
+use Rattle.std.specs.Prelude.{◌≡◌, ◌<◌, ◌^◌, ◌↔◌, ◌++◌, ℕ, List, Ok, length}
 use Rattle.std.specs.List.{AllByRecursion}
 use Rattle.schema.specs.Soundness.{IsSound}
+use Rattle.schema.specs.Types.{fields_of}
 use Rattle.schema.specs.Validity.{IsValid}
 use Rattle.schema.specs.declared.types.messages.TypeId.{TypeId}
 use Rattle.schema.specs.declared.types.messages.Types.{Types}
 use Rattle.schema.specs.declared.value.Value.{Value}
 use Rattle.wire_format.specs.CanonicalBytes.{canonical_bytes}
 use Rattle.wire_format.specs.Decoding.{DecodesTo, decoding}
+use Rattle.wire_format.specs.KeptFields.{KeepsAll}
+use Rattle.wire_format.specs.MergedValues.{merged}
 use Rattle.wire_format.specs.PayloadLengths.{HasLengths}
 
 -- bytes are one value of a type at most
@@ -33,3 +36,11 @@ CanonicalBytesDecode = (types : Types) (id : TypeId) (v : Value) → IsSound typ
 -- so they do where they are fewer than 2 ^ 64 in all
 abbrev pub ShortCanonicalBytesDecode : Type 0
 ShortCanonicalBytesDecode = (types : Types) (id : TypeId) (v : Value) → IsSound types → IsValid types id v → length (canonical_bytes types id v) < 2 ^ 64 → DecodesTo types id (canonical_bytes types id v) v
+
+-- bytes, and behind them others that undo nothing that they set, decode to the merge of both values
+abbrev pub JoinedBytesMerge : Type 0
+JoinedBytesMerge = (types : Types) (id : TypeId) (a b : List ℕ) (v w : Value) → DecodesTo types id a v → DecodesTo types id b w → KeepsAll 100 types (fields_of types id) b → DecodesTo types id (a ++ b) (merged types id v w)
+
+-- so they do where the canonical bytes of a valid value stand behind
+abbrev pub CanonicalBytesMerge : Type 0
+CanonicalBytesMerge = (types : Types) (id : TypeId) (bytes : List ℕ) (v w : Value) → IsSound types → DecodesTo types id bytes v → IsValid types id w → HasLengths types id w → DecodesTo types id (bytes ++ canonical_bytes types id w) (merged types id v w)

@@ -16,6 +16,8 @@ pub mod Checks
 pub mod GoodBytes
 pub mod CanonicalBytes
 pub mod PayloadLengths
+pub mod MergedValues
+pub mod KeptFields
 pub mod Laws
 pub mod Sizes
 pub mod WorkedExamples

@@ -1,5 +1,5 @@
 //! Laws that tie bytes and values together.
-ghost use Rattle.wire_format.specs.Laws.{CanonicalBytesDecode, DecodedValuesAreValid, DecodesWithoutFault, HasOneValue, ShortCanonicalBytesDecode};
+ghost use Rattle.wire_format.specs.Laws.{CanonicalBytesDecode, CanonicalBytesMerge, DecodedValuesAreValid, DecodesWithoutFault, HasOneValue, JoinedBytesMerge, ShortCanonicalBytesDecode};
 
 /// Bytes are one value of a message type at most.
 pub fn one_value()
@@ -22,4 +22,12 @@ pub fn decoded_values_are_valid()
 pub fn canonical_bytes_decode_to_their_value()
     ensures lengths { CanonicalBytesDecode }
     ensures short { ShortCanonicalBytesDecode }
+{}
+
+/// Bytes behind others are merged into their value: scalars of the later ones count, messages merge,
+/// lists join, of each key of a map the later entry counts, and of a oneof the later member. The later
+/// bytes must undo nothing that they set, as what is written of a valid value does.
+pub fn joined_bytes_merge()
+    ensures kept { JoinedBytesMerge }
+    ensures canonical { CanonicalBytesMerge }
 {}

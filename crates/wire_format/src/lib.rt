@@ -29,7 +29,7 @@ pub use fault::{DecodeFault, WireFault, WireKind};
 pub use groups::RawRecord;
 pub use laws::{
     canonical_bytes_decode_to_their_value, decoded_values_are_valid, decodes_without_fault,
-    one_value,
+    joined_bytes_merge, one_value,
 };
 pub use payload::Payload;
 pub use records::{Record, Records, first_record};
