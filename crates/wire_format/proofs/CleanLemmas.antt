@@ -16,13 +16,12 @@ use Rattle.schema.specs.declared.types.messages.TypeId.{TypeId}
 use Rattle.schema.specs.declared.types.messages.Types.{Types}
 use Rattle.wire_format.specs.FieldValues.{some_of, since, payloads, sized_of, sets_other, counted}
 use Rattle.wire_format.specs.GoodBytes.{AndWhole, AreWhole}
-use Rattle.wire_format.specs.Laws.{AreBytes}
 use Rattle.wire_format.specs.WireFaults.{Fault, Wire, NotUtf8, is_message, or_else, and_fault, entry_fields, payload_fault, field_fault, records_fault, first_fault}
 use Rattle.wire_format.specs.WireRecord.{Record, Payload, number, eight, sized, group, four, record_in, records, and_records}
 use Rattle.wire_format.specs.declared.fault.WireKind.{WireKind}
 use Rattle.wire_format.specs.declared.fault.WireKind.TheVariants.{TooDeep}
 use Rattle.wire_format.proofs.StableLemmas.{whole_stable, records_joined, whole_joined}
-use Rattle.wire_format.proofs.RangeLemmas.{IsRanged}
+use Rattle.wire_format.proofs.RangeLemmas.{AllBytes, IsRanged}
 use Rattle.wire_format.proofs.DecodedItemLemmas.{HasText, both_all}
 
 -- ---- bytes without a fault
@@ -65,9 +64,9 @@ module _ (check : ℕ → Record → Option Fault) (k : ℕ) where
 pub record IsClean (k : ℕ) (types : Types) (fields : List Field) (bytes : List ℕ) : Type 0 where
   pub whole : AreWhole k 0 bytes
   pub faultless : AllByRecursion (IsFaultless (λ at r. field_fault (first_fault k types) types k (field_in fields r.number) at r) k) (records k 0 bytes)
-  pub all : AreBytes bytes
+  pub all : AllBytes bytes
 
-pub clean_is : (k : ℕ) (types : Types) (fields : List Field) (place : ℕ) (bytes : List ℕ) → AreBytes bytes → first_fault (suc k) types fields place bytes ≡ None → IsClean k types fields bytes
+pub clean_is : (k : ℕ) (types : Types) (fields : List Field) (place : ℕ) (bytes : List ℕ) → AllBytes bytes → first_fault (suc k) types fields place bytes ≡ None → IsClean k types fields bytes
 unfolding first_fault
 clean_is k types fields place bytes b h =
     let check : ℕ → Record → Option Fault = λ at r. field_fault (first_fault k types) types k (field_in fields r.number) at r in
@@ -117,9 +116,9 @@ text_is k types _ _ place from _ no_map h = tt
 pub record IsDeep (k : ℕ) (types : Types) (fields : List Field) (bytes : List ℕ) : Type 0 where
   pub some : k ≡ 0 → ⊥
   pub none : (place : ℕ) × (first_fault k types fields place bytes ≡ None)
-  pub all : AreBytes bytes
+  pub all : AllBytes bytes
 
-deep_by : (k : ℕ) (types : Types) (id : TypeId) (place from : ℕ) (bs : List ℕ) → AreBytes bs → cond (k == 0) (Some (Wire place TooDeep)) (first_fault k types (fields_of types id) from bs) ≡ None → IsDeep k types (fields_of types id) bs
+deep_by : (k : ℕ) (types : Types) (id : TypeId) (place from : ℕ) (bs : List ℕ) → AllBytes bs → cond (k == 0) (Some (Wire place TooDeep)) (first_fault k types (fields_of types id) from bs) ≡ None → IsDeep k types (fields_of types id) bs
 deep_by k types id place from bs b h =
     let n = not_chosen (k == 0) _ (first_fault k types (fields_of types id) from bs) h in
     record { some = eqb-false k 0 n.0; none = (from, n.1); all = b }
@@ -144,7 +143,7 @@ deep_is k types shape id group bs no_map c e = absurd cc
 pub record IsDeepEntry (k : ℕ) (types : Types) (s : Scalar) (kind : Kind) (bytes : List ℕ) : Type 0 where
   pub room : (k == 0 || (k == 1 && is_message kind)) ≡ false
   pub none : (place : ℕ) × (first_fault k types (entry_fields s kind) place bytes ≡ None)
-  pub all : AreBytes bytes
+  pub all : AllBytes bytes
 
 pub deep_entry : (k : ℕ) (types : Types) (s : Scalar) (kind : Kind) (p : Payload) (bs : List ℕ) → IsCleanPayload k types (MapOf s) kind p → sized_of p ≡ Some bs → IsDeepEntry k types s kind bs
 deep_entry k types s kind (sized cs) bs c e = subst (IsDeepEntry k types s kind) (list_is cs bs e) (by c.none)

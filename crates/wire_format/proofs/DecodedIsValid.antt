@@ -27,7 +27,7 @@ use Rattle.wire_format.specs.Laws.{AreBytes}
 use Rattle.wire_format.specs.Scalars.{scalar_of, default_of}
 use Rattle.wire_format.specs.WireFaults.{is_message, entry_field, entry_fields, field_fault, first_fault}
 use Rattle.wire_format.specs.WireRecord.{Record, Payload, number, eight, sized, group, four, records}
-use Rattle.wire_format.proofs.RangeLemmas.{IsRanged, records_ranged}
+use Rattle.wire_format.proofs.RangeLemmas.{bytes_all, IsRanged, records_ranged}
 use Rattle.wire_format.proofs.RisingLemmas.{gather_rises, gather_all}
 use Rattle.wire_format.proofs.MessageReadLemmas.{field_found, fields_sound, numbers_some}
 use Rattle.wire_format.proofs.DecodedItemLemmas.{scalar_valid, default_valid, key_valid, last_all, filter_all, flat_all, map_all, scalar_items_valid, entries_some, entries_rise, entries_all, stored_valid}
@@ -231,7 +231,7 @@ module _ (types : Types) (sound : IsSound types) where
   -- the value that bytes decode to is valid
   pub decoded_valid : (id : TypeId) (bytes : List ℕ) (v : Value) → AreBytes bytes → DecodesTo types id bytes v → IsValid types id v
   decoded_valid id bytes v b h =
-      let deep : IsDeep 100 types (fields_of types id) bytes = record { some = λ z. absurd (omega arith); none = (0, h.0); all = b } in
+      let deep : IsDeep 100 types (fields_of types id) bytes = record { some = λ z. absurd (omega arith); none = (0, h.0); all = bytes_all bytes b } in
       let valid = (validates 100).message (λ z. absurd (omega arith)) id (bytes ∷ []) (deep, tt) in
       let e : (meaning_within 100 types).message (fields_of types id) (bytes ++ []) ≡ v = ap ((meaning_within 100 types).message (fields_of types id)) (append-nil bytes) ∙ sym h.1 in
       subst ((valid_within 100 types).message id) e valid

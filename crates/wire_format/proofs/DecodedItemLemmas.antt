@@ -23,11 +23,10 @@ use Rattle.schema.specs.declared.types.fields.Scalar.{Scalar}
 use Rattle.schema.specs.declared.types.fields.Scalar.TheVariants.{Int32, Int64, Uint32, Uint64, Sint32, Sint64, Fixed32, Fixed64, Sfixed32, Sfixed64, Bool as BoolOf, Text as TextOf, Bytes as BytesOf, Enumeration}
 use Rattle.schema.proofs.KeyOrderLemmas.{key_back}
 use Rattle.wire_format.specs.FieldValues.{last_of, stored, one, scalar_items, key_of, if_new, last_entries}
-use Rattle.wire_format.specs.Laws.{AreBytes}
 use Rattle.wire_format.specs.Scalars.{unzigzag, scalar_of, scalar_wire, is_packable, default_of, option_list, and_elements, elements}
 use Rattle.wire_format.specs.WireRecord.{Payload, Piece, number, eight, sized, group, four, payload_in}
 use Rattle.wire_format.specs.declared.fault.WireKind.{WireKind}
-use Rattle.wire_format.proofs.RangeLemmas.{IsRanged, payload_ranged}
+use Rattle.wire_format.proofs.RangeLemmas.{AllBytes, IsRanged, payload_ranged}
 
 -- ---- numbers
 
@@ -156,7 +155,7 @@ packed_text TextOf p h = absurd cc
 packed_text _ p h = tt
 
 module _ (s : Scalar) (packed : is_packable s ≡ true) where
-  element_step : (b : ℕ) (bs : List ℕ) (x : Result Piece WireKind) → payload_in (scalar_wire s) (b ∷ bs) ≡ x → AreBytes (b ∷ bs) → ((skip : ℕ) → AllByRecursion (IsScalarItem s) (elements s skip bs))
+  element_step : (b : ℕ) (bs : List ℕ) (x : Result Piece WireKind) → payload_in (scalar_wire s) (b ∷ bs) ≡ x → AllBytes (b ∷ bs) → ((skip : ℕ) → AllByRecursion (IsScalarItem s) (elements s skip bs))
       → AllByRecursion (IsScalarItem s) (and_elements s x (λ skip. elements s skip bs))
   element_step b bs (Err e) q h ih = tt
   element_step b bs (Ok p) q h ih =
@@ -164,7 +163,7 @@ module _ (s : Scalar) (packed : is_packable s ≡ true) where
       (option_all (IsScalarItem s) (scalar_of s p.payload) (λ i e. scalar_valid s p.payload i (packed_text s p.payload packed) (payload_ranged (scalar_wire s) (b ∷ bs) p h q) e))
       (ih (p.to - 1))
 
-  elements_valid : (skip : ℕ) (bytes : List ℕ) → AreBytes bytes → AllByRecursion (IsScalarItem s) (elements s skip bytes)
+  elements_valid : (skip : ℕ) (bytes : List ℕ) → AllBytes bytes → AllByRecursion (IsScalarItem s) (elements s skip bytes)
   elements_valid skip [] h = tt
   elements_valid (suc skip) (b ∷ bs) h = elements_valid skip bs h.1
   elements_valid zero (b ∷ bs) h = element_step b bs (payload_in (scalar_wire s) (b ∷ bs)) refl h (λ skip. elements_valid skip bs h.1)

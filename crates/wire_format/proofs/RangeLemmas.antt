@@ -2,7 +2,6 @@
 use Rattle.std.proofs.Common.{◌≡◌, ◌+◌, ◌-◌, ◌%◌, ◌^◌, ◌<◌, ◌==◌, ℕ, zero, suc, Bool, true, false, cond, List, [], ◌∷◌, length, take, drop, Some, None, Result, Ok, Err, nat_lt, arith, refl, subst, get_or}
 use Rattle.std.specs.Int.{w32, w64, from_le_bytes}
 use Rattle.std.specs.List.{AllByRecursion}
-use Rattle.wire_format.specs.Laws.{AreBytes}
 use Rattle.wire_format.specs.Outcome.{◌>>=◌}
 use Rattle.wire_format.specs.Varint.{varint_in, number_in}
 use Rattle.wire_format.specs.declared.fault.WireKind.{WireKind}
@@ -37,30 +36,34 @@ by_wire P false false false p a b c d h = d h
 
 -- ---- bytes
 
-pub bytes_drop : (n : ℕ) (bs : List ℕ) → AreBytes bs → AreBytes (drop n bs)
+-- each of a list is a byte
+abbrev pub AllBytes : List ℕ → Type 0
+AllBytes bs = AllByRecursion (λ (b : ℕ). b < 256) bs
+
+pub bytes_drop : (n : ℕ) (bs : List ℕ) → AllBytes bs → AllBytes (drop n bs)
 bytes_drop zero bs h = h
 bytes_drop (suc n) [] h = tt
 bytes_drop (suc n) (b ∷ bs) h = bytes_drop n bs h.1
 
-pub bytes_take : (n : ℕ) (bs : List ℕ) → AreBytes bs → AreBytes (take n bs)
+pub bytes_take : (n : ℕ) (bs : List ℕ) → AllBytes bs → AllBytes (take n bs)
 bytes_take zero bs h = tt
 bytes_take (suc n) [] h = tt
 bytes_take (suc n) (b ∷ bs) h = (h.0, bytes_take n bs h.1)
 
-pub bytes_all : (bs : List ℕ) → ((i : ℕ) → get_or bs i 0 < 256) → AreBytes bs
+pub bytes_all : (bs : List ℕ) → ((i : ℕ) → get_or bs i 0 < 256) → AllBytes bs
 bytes_all [] h = tt
 bytes_all (b ∷ bs) h = (h 0, bytes_all bs (λ i. h (suc i)))
 
-each_byte : (bs : List ℕ) → AreBytes bs → (i : ℕ) → get_or bs i 0 < 256
+each_byte : (bs : List ℕ) → AllBytes bs → (i : ℕ) → get_or bs i 0 < 256
 each_byte [] h zero = omega arith
 each_byte [] h (suc i) = omega arith
 each_byte (b ∷ bs) h zero = h.0
 each_byte (b ∷ bs) h (suc i) = each_byte bs h.1 i
 
-four_bytes : (bs : List ℕ) → AreBytes bs → from_le_bytes w32 bs < 2 ^ 32
+four_bytes : (bs : List ℕ) → AllBytes bs → from_le_bytes w32 bs < 2 ^ 32
 four_bytes bs h = let e = each_byte bs h in omega (arith, e 0, e 1, e 2, e 3)
 
-eight_bytes : (bs : List ℕ) → AreBytes bs → from_le_bytes w64 bs < 2 ^ 64
+eight_bytes : (bs : List ℕ) → AllBytes bs → from_le_bytes w64 bs < 2 ^ 64
 eight_bytes bs h = let e = each_byte bs h in omega (arith, e 0, e 1, e 2, e 3, e 4, e 5, e 6, e 7)
 
 -- a payload's number has the bits of its wire type
@@ -68,7 +71,7 @@ abbrev pub IsRanged : Payload → Type 0
 IsRanged (number n) = n < 2 ^ 64
 IsRanged (eight n) = n < 2 ^ 64
 IsRanged (four n) = n < 2 ^ 32
-IsRanged (sized bs) = AreBytes bs
+IsRanged (sized bs) = AllBytes bs
 IsRanged group = Unit {0}
 
 number_small : (bytes : List ℕ) (r : ℕ × ℕ) → number_in bytes ≡ Ok r → r.0 < 2 ^ 64
@@ -88,7 +91,7 @@ number_ranged rest p h =
     let a = bind_ok (number_in rest) f p h in
     subst (λ (q : Piece). IsRanged q.payload) (piece_is (record { payload = number a.0.0; from = 0; to = a.0.1 }) p a.2) (number_small rest a.0 a.1)
 
-sized_ranged : (rest : List ℕ) (p : Piece) → AreBytes rest → (number_in rest >>= λ n. sized_in n.0 n.1 (drop n.1 rest)) ≡ Ok p → IsRanged p.payload
+sized_ranged : (rest : List ℕ) (p : Piece) → AllBytes rest → (number_in rest >>= λ n. sized_in n.0 n.1 (drop n.1 rest)) ≡ Ok p → IsRanged p.payload
 sized_ranged rest p b h =
     let f : ℕ × ℕ → Result Piece WireKind = λ n. sized_in n.0 n.1 (drop n.1 rest) in
     let a = bind_ok (number_in rest) f p h in
@@ -99,7 +102,7 @@ sized_ranged rest p b h =
 fixed_ranged : (n : ℕ) (make : List ℕ → Piece) (rest : List ℕ) (p : Piece) → IsRanged (make (take n rest)).payload → cond (nat_lt (length rest) n) (Err Short) (Ok (make (take n rest))) ≡ Ok p → IsRanged p.payload
 fixed_ranged n make rest p r h = subst (λ (q : Piece). IsRanged q.payload) (guard_ok (nat_lt (length rest) n) Short (make (take n rest)) p h).1 r
 
-pub payload_ranged : (wire : ℕ) (rest : List ℕ) (p : Piece) → AreBytes rest → payload_in wire rest ≡ Ok p → IsRanged p.payload
+pub payload_ranged : (wire : ℕ) (rest : List ℕ) (p : Piece) → AllBytes rest → payload_in wire rest ≡ Ok p → IsRanged p.payload
 unfolding payload_in
 payload_ranged wire rest p b h =
     by_wire (λ q. IsRanged q.payload) (wire == 0) (wire == 1) (wire == 2) p
@@ -113,7 +116,7 @@ module _ (inner : ℕ → ℕ → List ℕ → Result ℕ Stop) where
   abbrev behind : Tag → List ℕ → Bool → Bool → Result Record Stop
   behind t rest x y = cond x (inner t.len t.number rest >>= λ size. Ok (record { number = t.number; payload = group; head = t.len; size = size })) (cond y (Err (Some (0, BadGroup))) (at_front (payload_in t.wire rest) >>= λ p. Ok (record { number = t.number; payload = p.payload; head = t.len + p.from; size = t.len + p.to })))
 
-  behind_ranged : (t : Tag) (rest : List ℕ) (r : Record) (x y : Bool) → AreBytes rest → behind t rest x y ≡ Ok r → IsRanged r.payload
+  behind_ranged : (t : Tag) (rest : List ℕ) (r : Record) (x y : Bool) → AllBytes rest → behind t rest x y ≡ Ok r → IsRanged r.payload
   behind_ranged t rest r true y b h =
       let f : ℕ → Result Record Stop = λ size. Ok (record { number = t.number; payload = group; head = t.len; size = size }) in
       let a = bind_ok (inner t.len t.number rest) f r h in
@@ -124,25 +127,25 @@ module _ (inner : ℕ → ℕ → List ℕ → Result ℕ Stop) where
       let a = bind_ok (at_front (payload_in t.wire rest)) f r h in
       subst (λ (q : Record). IsRanged q.payload) (rec_is (record { number = t.number; payload = a.0.payload; head = t.len + a.0.from; size = t.len + a.0.to }) r a.2) (payload_ranged t.wire rest a.0 b (front_ok (payload_in t.wire rest) a.0 a.1))
 
-  record_ranged : (bytes : List ℕ) (r : Record) → AreBytes bytes → record_with inner bytes ≡ Ok r → IsRanged r.payload
+  record_ranged : (bytes : List ℕ) (r : Record) → AllBytes bytes → record_with inner bytes ≡ Ok r → IsRanged r.payload
   unfolding record_with
   record_ranged bytes r b h =
       let f : Tag → Result Record Stop = λ t. behind t (drop t.len bytes) (t.wire == 3) (t.wire == 4) in
       let a = bind_ok (at_front (tag_in bytes)) f r h in
       behind_ranged a.0 (drop a.0.len bytes) r (a.0.wire == 3) (a.0.wire == 4) (bytes_drop a.0.len bytes b) a.2
 
-pub whole_ranged : (k : ℕ) (bytes : List ℕ) (r : Record) → AreBytes bytes → record_in k bytes ≡ Ok r → IsRanged r.payload
+pub whole_ranged : (k : ℕ) (bytes : List ℕ) (r : Record) → AllBytes bytes → record_in k bytes ≡ Ok r → IsRanged r.payload
 unfolding record_in
 whole_ranged k bytes r b h = record_ranged (group_in k) bytes r b (whole_ok (record_with (group_in k) bytes) r h)
 
 abbrev pub AreRanged : List Record → Type 0
 AreRanged rs = AllByRecursion (λ (r : Record). IsRanged r.payload) rs
 
-one_more : (k b : ℕ) (bs : List ℕ) (x : Result Record (ℕ × WireKind)) → AreBytes (b ∷ bs) → record_in k (b ∷ bs) ≡ x → ((skip : ℕ) → AreRanged (records k skip bs)) → AreRanged (and_records x (λ skip. records k skip bs))
+one_more : (k b : ℕ) (bs : List ℕ) (x : Result Record (ℕ × WireKind)) → AllBytes (b ∷ bs) → record_in k (b ∷ bs) ≡ x → ((skip : ℕ) → AreRanged (records k skip bs)) → AreRanged (and_records x (λ skip. records k skip bs))
 one_more k b bs (Err e) h q ih = tt
 one_more k b bs (Ok r) h q ih = (whole_ranged k (b ∷ bs) r h q, ih (r.size - 1))
 
-pub records_ranged : (k skip : ℕ) (bytes : List ℕ) → AreBytes bytes → AreRanged (records k skip bytes)
+pub records_ranged : (k skip : ℕ) (bytes : List ℕ) → AllBytes bytes → AreRanged (records k skip bytes)
 records_ranged k skip [] h = tt
 records_ranged k (suc skip) (b ∷ bs) h = records_ranged k skip bs h.1
 records_ranged k zero (b ∷ bs) h = one_more k b bs (record_in k (b ∷ bs)) h refl (λ skip. records_ranged k skip bs h.1)

@@ -1,6 +1,5 @@
 -- Laws of bytes and values.
-use Rattle.std.specs.Prelude.{◌≡◌, ◌<◌, ◌^◌, ◌↔◌, ◌++◌, ℕ, List, Ok, length}
-use Rattle.std.specs.List.{AllByRecursion}
+use Rattle.std.specs.Prelude.{◌≡◌, ◌<◌, ◌^◌, ◌↔◌, ◌++◌, ℕ, List, Ok, length, slice_index_or}
 use Rattle.schema.specs.Soundness.{IsSound}
 use Rattle.schema.specs.Types.{fields_of}
 use Rattle.schema.specs.Validity.{IsValid}
@@ -23,7 +22,7 @@ DecodesWithoutFault = (types : Types) (id : TypeId) (bytes : List ℕ) (v : Valu
 
 -- each number of a list is a byte
 abbrev pub AreBytes : List ℕ → Type 0
-AreBytes bytes = AllByRecursion (λ (b : ℕ). b < 256) bytes
+AreBytes bytes = (i : ℕ) → slice_index_or bytes i 0 < 256
 
 -- what bytes decode to is valid
 abbrev pub DecodedValuesAreValid : Type 0
