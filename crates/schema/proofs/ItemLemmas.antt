@@ -6,7 +6,7 @@ use Rattle.std.specs.Ordering.{is_lt, is_eq, ordering_reverse}
 use Rattle.schema.specs.declared.key.Key.{Key}
 use Rattle.schema.specs.declared.value.Item.{Item}
 use Rattle.schema.specs.Pairs.{key_cmp, item_at, with_item, KeysRise, KeysRiseFrom}
-use Rattle.schema.proofs.KeyOrderLemmas.{key_back, key_congr}
+use Rattle.schema.specs.KeyOrder.{key_back, key_congr}
 
 eq_is : (x : Ordering) → is_eq x ≡ true → x ≡ Equal
 eq_is Less h = absurd (cc)

@@ -2,6 +2,7 @@ pub mod formers
 pub mod Value
 pub mod SlotPlaces
 pub mod Pairs
+pub mod KeyOrder
 pub mod Layers
 pub mod Types
 pub mod Apart

@@ -21,7 +21,7 @@ fn place_of(entries: &[(Key, Item)], key: &Key) -> Result<usize, usize>
     ensures { result ≡ key_place_in entries.now key.now }
 {
     for (i, (k, _)) in entries.iter().enumerate() {
-        match k.compare(key) {
+        match k.cmp(key) {
             Ordering::Less => {}
             Ordering::Equal => return Ok(i),
             Ordering::Greater => return Err(i),
@@ -55,6 +55,13 @@ impl Pairs {
         }
     }
 
+    /// The entries of a list, which has each key once, by rising key. Takes no memory.
+    pub fn from_entries(entries: List<(Key, Item)>) -> Pairs
+        ensures { entries_of result ≡ entries }
+    {
+        Pairs { entries }
+    }
+
     /// The number of entries.
     pub fn len(&self) -> usize
         ensures { result ≡ length (entries_of self.now) }
@@ -74,7 +81,7 @@ impl Pairs {
         ensures { option_copied result ≡ item_at (entries_of self.now) key.now }
     {
         for (k, item) in self.entries.as_slice() {
-            if k.compare(key).is_eq() {
+            if k.cmp(key).is_eq() {
                 return Some(item);
             }
         }

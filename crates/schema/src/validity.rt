@@ -96,7 +96,7 @@ fn do_keys_rise(entries: &[(Key, Item)]) -> bool
     };
     let mut low = &first.0;
     for (key, _) in rest {
-        if !low.compare(key).is_lt() {
+        if !low.cmp(key).is_lt() {
             return false;
         }
         low = key;

@@ -21,7 +21,7 @@ use Rattle.schema.specs.declared.types.fields.Presence.{Presence}
 use Rattle.schema.specs.declared.types.fields.Presence.TheVariants.{Implicit, Explicit}
 use Rattle.schema.specs.declared.types.fields.Scalar.{Scalar}
 use Rattle.schema.specs.declared.types.fields.Scalar.TheVariants.{Int32, Int64, Uint32, Uint64, Sint32, Sint64, Fixed32, Fixed64, Sfixed32, Sfixed64, Bool as BoolOf, Text as TextOf, Bytes as BytesOf, Enumeration}
-use Rattle.schema.proofs.KeyOrderLemmas.{key_back}
+use Rattle.schema.specs.KeyOrder.{key_back}
 use Rattle.wire_format.specs.FieldValues.{last_of, stored, one, scalar_items, key_of, if_new, last_entries}
 use Rattle.wire_format.specs.Scalars.{unzigzag, scalar_of, scalar_wire, is_packable, default_of, option_list, and_elements, elements}
 use Rattle.wire_format.specs.WireRecord.{Payload, Piece, number, eight, sized, group, four, payload_in}

@@ -1,12 +1,13 @@
 -- The last entry of each key, put one after another.
-use Rattle.std.proofs.Common.{◌≡◌, List, [], ◌∷◌, ◌++◌, refl, ap, sym, ◌∙◌, append_assoc, append-nil}
+use Rattle.std.proofs.Common.{◌≡◌, cond, List, [], ◌∷◌, ◌++◌, refl, ap, sym, ◌∙◌, append_assoc, append-nil}
 use Rattle.std.specs.declared.cmp.Ordering.{Ordering}
 use Rattle.std.specs.declared.cmp.Ordering.TheVariants.{Less, Equal, Greater}
-use Rattle.std.specs.Ordering.{ordering_reverse}
+use Rattle.std.specs.BTreeMap.{insert_entry}
+use Rattle.std.specs.Ordering.{ordering_reverse, match_ordering, is_lt, is_eq}
 use Rattle.schema.specs.Pairs.{key_cmp, with_item}
 use Rattle.schema.specs.declared.key.Key.{Key}
 use Rattle.schema.specs.declared.value.Item.{Item}
-use Rattle.schema.proofs.KeyOrderLemmas.{key_back, key_trans, key_congr}
+use Rattle.schema.specs.KeyOrder.{key_back, key_trans, key_congr, key_same}
 use Rattle.wire_format.specs.FieldValues.{if_new, last_entries}
 
 -- an entry put in its place
@@ -69,3 +70,14 @@ puts_after xs (y ∷ ys) = ap (λ (es : List (Key × Item)). puts es ys) (sym (e
 -- all entries, put one after another, are the last of each key
 pub puts_all : (es : List (Key × Item)) → puts [] es ≡ last_entries es
 puts_all es = puts_after [] es
+
+-- an entry that is inserted stands where it is put
+inserted_step : (e : Key × Item) (es xs ys : List (Key × Item)) (k : Key) (i : Item) (c : Ordering) → key_cmp e.0 k ≡ c → key_cmp k e.0 ≡ ordering_reverse c → (c ≡ Equal → e.0 ≡ k) → xs ≡ ys
+    → match_ordering (key_cmp k e.0) ((k, i) ∷ e ∷ es) ((e.0, i) ∷ es) (e ∷ xs) ≡ cond (is_lt (key_cmp e.0 k)) (e ∷ ys) (cond (is_eq (key_cmp e.0 k)) ((k, i) ∷ es) ((k, i) ∷ e ∷ es))
+inserted_step e es xs ys k i Less p q s h = simp (p, q) (ap (λ zs. e ∷ zs) h)
+inserted_step e es xs ys k i Equal p q s h = simp (p, q) (ap (λ (x : Key). (x, i) ∷ es) (s refl))
+inserted_step e es xs ys k i Greater p q s h = simp (p, q) refl
+
+pub inserted : (es : List (Key × Item)) (k : Key) (i : Item) → insert_entry key_cmp es k i ≡ with_item es k i
+inserted [] k i = refl
+inserted (e ∷ es) k i = inserted_step e es (insert_entry key_cmp es k i) (with_item es k i) k i (key_cmp e.0 k) refl (key_back k e.0) (key_same e.0 k) (inserted es k i)

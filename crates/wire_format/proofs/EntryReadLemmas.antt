@@ -21,7 +21,7 @@ use Rattle.schema.specs.declared.types.fields.Scalar.{Scalar}
 use Rattle.schema.specs.declared.types.fields.Shape.TheVariants.{Single}
 use Rattle.schema.specs.declared.types.messages.TypeId.{TypeId}
 use Rattle.schema.specs.declared.types.messages.Types.{Types}
-use Rattle.schema.proofs.KeyOrderLemmas.{key_back}
+use Rattle.schema.specs.KeyOrder.{key_back}
 use Rattle.wire_format.specs.CanonicalBytes.{wire_of, tag, item_bytes, record_bytes, key_bytes, entry_bytes}
 use Rattle.wire_format.specs.FieldValues.{Inner, payloads, singular, key_of, default_item, entry_by, if_new, last_entries, meaning_within}
 use Rattle.wire_format.specs.GoodBytes.{AndWhole, AreWhole}

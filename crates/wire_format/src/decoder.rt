@@ -16,6 +16,7 @@ ghost use Rattle.wire_format.specs.WireFaults.{entry_fields};
 
 use crate::checker::check_message;
 use crate::fault::DecodeFault;
+use crate::gathered::{entries_pairs, put_last};
 use crate::groups::RawRecord;
 use crate::items::{last_scalar, push_scalars};
 use crate::payload::Payload;
@@ -27,6 +28,7 @@ use schema::{
     find_field,
 };
 use std::alloc::Global;
+use std::collections::BTreeMap;
 
 /// The item of a singular field by its payloads: of a scalar the last, of a message all of them,
 /// joined.
@@ -205,12 +207,12 @@ fn pairs_of(
     requires { AllByRecursion (AreGood level types.now (entry_fields scalar kind)) (map (λ b. b.now) chunks.now) }
     ensures { IfOk result (λ ps. entries_of ps ≡ last_entries (map ((meaning_within level types.now).entry scalar kind) (map (λ b. b.now) chunks.now))) }
 {
-    let mut pairs = Pairs::new(alloc);
+    let mut last = BTreeMap::new(alloc);
     for chunk in chunks {
         let (key, item) = entry_of(alloc, types, level, scalar, kind, chunk)?;
-        pairs.put(key, item)?;
+        put_last(&mut last, key, item)?;
     }
-    Ok(pairs)
+    entries_pairs(alloc, last)
 }
 
 /// The slot of a field by the payloads that count for it.

@@ -10,6 +10,7 @@ mod decoder;
 mod encoder;
 mod examples;
 mod fault;
+mod gathered;
 mod groups;
 mod items;
 mod laws;

@@ -65,7 +65,7 @@ entry_of-returns t c =
 pub pairs_of-loop-chunk-init : goal.pairs_of-loop-chunk-init
 pairs_of-loop-chunk-init t c =
     let all = map ((meaning_within c.args.level c.args.types.now).entry c.args.scalar c.args.kind) (map bytes_in c.args.chunks.now) in
-    record { rest = c.requires; told = ap (λ es. puts es all) c.new-pairs.ensures ∙ puts_all all }
+    record { rest = c.requires; told = ap (λ es. puts es all) c.new-last.ensures.empty ∙ puts_all all }
 
 pub field_slot-slot_by-requires : goal.field_slot-slot_by-requires
 field_slot-slot_by-requires t c =

@@ -1,6 +1,5 @@
 use Rattle.std.proofs.Common.{◌≡◌, ◌+◌, ◌*◌, ◌++◌, length, drop, map}
 use Rattle.std.specs.List.{AllByRecursion, flat_map}
-use Rattle.schema.specs.Pairs.{entries_of}
 use Rattle.schema.specs.Value.{slots_of}
 use Rattle.schema.specs.declared.value.Item.{out-Item}
 use Rattle.wire_format.specs.FieldValues.{items_of, last_entries, slot_of, gather, meaning_within}
@@ -20,7 +19,7 @@ invariant-list_of-loop-payload l = record {
 abbrev pub invariant-pairs_of-loop-chunk : goal.invariant-pairs_of-loop-chunk
 invariant-pairs_of-loop-chunk l = record {
   rest : AllByRecursion (AreGood l.level l.types (entry_fields l.scalar l.kind)) (map (λ b. b.now) (drop l.chunk-index l.chunks));
-  told : puts (entries_of l.pairs) (map ((meaning_within l.level l.types).entry l.scalar l.kind) (map (λ b. b.now) (drop l.chunk-index l.chunks))) ≡ last_entries (map ((meaning_within l.level l.types).entry l.scalar l.kind) (map (λ b. b.now) l.chunks));
+  told : puts l.last.entries (map ((meaning_within l.level l.types).entry l.scalar l.kind) (map (λ b. b.now) (drop l.chunk-index l.chunks))) ≡ last_entries (map ((meaning_within l.level l.types).entry l.scalar l.kind) (map (λ b. b.now) l.chunks));
 }
 
 abbrev pub decreases-gathered-loop-field : goal.decreases-gathered-loop-field

@@ -1,8 +1,9 @@
 -- The order of keys is total.
-use Rattle.std.proofs.Common.{◌≡◌, refl}
+use Rattle.std.proofs.Common.{◌≡◌, Bool, true, false, refl, ap}
+use Rattle.std.proofs.lemmas.Map.Lookups.{exact_signed, exact_bytes}
 use Rattle.std.specs.declared.cmp.Ordering.TheVariants.{Less, Equal}
-use Rattle.std.specs.Ordering.{ordering_reverse}
-use Rattle.std.specs.Cmp.{bool_cmp_total}
+use Rattle.std.specs.Ordering.{bool_cmp, ordering_reverse}
+use Rattle.std.specs.Cmp.{bool_cmp_total, IsTotalOrder}
 use Rattle.std.proofs.lemmas.Cmp.{int_cmp_total, nat_list_cmp_total}
 use Rattle.schema.specs.Pairs.{key_cmp}
 use Rattle.schema.specs.declared.key.Key.{Key}
@@ -39,3 +40,19 @@ key_congr (Truth a) (Truth b) z p = refl
 key_congr (Text a) (Text b) (Text c) p = nat_list_cmp_total.congr a b c p
 key_congr (Text a) (Text b) z p = refl
 key_congr x y z p = absurd cc
+
+truths_same : (a b : Bool) → bool_cmp a b ≡ Equal → a ≡ b
+truths_same true true p = refl
+truths_same false false p = refl
+truths_same a b p = absurd cc
+
+-- keys that stand alike are one key
+pub key_same : (x y : Key) → key_cmp x y ≡ Equal → x ≡ y
+key_same (Number a) (Number b) p = ap Number (exact_signed a b p)
+key_same (Truth a) (Truth b) p = ap Truth (truths_same a b p)
+key_same (Text a) (Text b) p = ap Text (exact_bytes a b p)
+key_same x y p = absurd cc
+
+-- the order of keys is a total order
+pub key_order : IsTotalOrder key_cmp
+key_order = record { antisymm = key_back; trans = key_trans; congr = key_congr }
