@@ -125,41 +125,33 @@ impl Spot {
         ensures err { IfErr result (λ f. IsMarkFault f at (spot_seen self.old) kind) }
         ensures shallow { OnOk result (level_in self.new.want self.new.around ≤ level_limit) }
     {
-        if !self.allows(kind) {
-            return Err(JsonFault::Syntax(at));
-        }
-        if is_opening(kind) && self.is_full() {
-            return Err(JsonFault::TooDeep(at));
-        }
-        match self.go(kind) {
-            Err(_) => Err(JsonFault::NoMemory),
-            Ok(_) => Ok(()),
-        }
-    }
-
-    /// Goes on by a mark, where it may come.
-    pub fn go(&mut self, kind: Kind) -> Result<bool, AllocError>
-        ensures { IfOk result (λ went. (if went then Some (spot_seen self.new) else None) ≡ next (spot_seen self.old) kind) }
-    {
         match turn(self.want, self.around.top(), kind) {
-            Turn::Stay(w) => {
-                self.want = w;
-                Ok(true)
+            Turn::Refuse => Err(JsonFault::Syntax(at)),
+            Turn::Stay(want) => {
+                if is_opening(kind) && self.is_full() {
+                    return Err(JsonFault::TooDeep(at));
+                }
+                self.want = want;
+                Ok(())
             }
-            Turn::Push(b, w) => {
-                self.around.push(b)?;
-                self.want = w;
-                Ok(true)
+            Turn::Push(bracket, want) => {
+                if is_opening(kind) && self.is_full() {
+                    return Err(JsonFault::TooDeep(at));
+                }
+                if self.around.push(bracket).is_err() {
+                    return Err(JsonFault::NoMemory);
+                }
+                self.want = want;
+                Ok(())
             }
-            Turn::Pop(w) => match self.around.top() {
-                None => Ok(false),
+            Turn::Pop(want) => match self.around.top() {
+                None => Err(JsonFault::Syntax(at)),
                 Some(_) => {
                     self.around.pop();
-                    self.want = w;
-                    Ok(true)
+                    self.want = want;
+                    Ok(())
                 }
             },
-            Turn::Refuse => Ok(false),
         }
     }
 }

@@ -42,34 +42,21 @@ fn is_sign(b: u8) -> bool
 pub fn begin(is_key: bool, b: u8) -> Option<WordState>
     ensures { option_map (λ l. record { state = l; is_key = is_key; held = first_held l b }) result ≡ begin is_key b }
 {
-    if b == b'"' {
-        Some(WordState::Inside(StringState::Plain))
-    } else if b == b'[' {
-        Some(WordState::Open(Bracket::Array))
-    } else if b == b']' {
-        Some(WordState::Close(Bracket::Array))
-    } else if b == b'{' {
-        Some(WordState::Open(Bracket::Object))
-    } else if b == b'}' {
-        Some(WordState::Close(Bracket::Object))
-    } else if b == b',' {
-        Some(WordState::Comma)
-    } else if b == b':' {
-        Some(WordState::Colon)
-    } else if b == b'-' {
-        Some(WordState::Minus)
-    } else if b == b'0' {
-        Some(WordState::Zero)
-    } else if is_digit(b) {
-        Some(WordState::Whole)
-    } else if b == b't' {
-        Some(WordState::Literal(Name::True, 1))
-    } else if b == b'f' {
-        Some(WordState::Literal(Name::False, 1))
-    } else if b == b'n' {
-        Some(WordState::Literal(Name::Null, 1))
-    } else {
-        None
+    match b {
+        b'"' => Some(WordState::Inside(StringState::Plain)),
+        b'[' => Some(WordState::Open(Bracket::Array)),
+        b']' => Some(WordState::Close(Bracket::Array)),
+        b'{' => Some(WordState::Open(Bracket::Object)),
+        b'}' => Some(WordState::Close(Bracket::Object)),
+        b',' => Some(WordState::Comma),
+        b':' => Some(WordState::Colon),
+        b'-' => Some(WordState::Minus),
+        b'0' => Some(WordState::Zero),
+        b'1'..=b'9' => Some(WordState::Whole),
+        b't' => Some(WordState::Literal(Name::True, 1)),
+        b'f' => Some(WordState::Literal(Name::False, 1)),
+        b'n' => Some(WordState::Literal(Name::Null, 1)),
+        _ => None,
     }
 }
 
