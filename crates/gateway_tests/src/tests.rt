@@ -108,10 +108,10 @@ fn entries_are_held_by_key(rt: HostRuntime) -> Result<(), Fail> {
 #[test]
 fn keys_are_in_order(rt: HostRuntime) -> Result<(), Fail> {
     let text = Key::Text(Text::copy_of(rt.alloc(), "b")?);
-    assert!(rt; Key::Number(9).compare(&Key::Truth(false)).is_lt());
-    assert!(rt; Key::Truth(true).compare(&Key::Truth(false)).is_gt());
-    assert!(rt; Key::Truth(true).compare(&text).is_lt());
-    assert!(rt; text.compare(&text.copy(rt.alloc())?).is_eq());
+    assert!(rt; Key::Number(9).cmp(&Key::Truth(false)).is_lt());
+    assert!(rt; Key::Truth(true).cmp(&Key::Truth(false)).is_gt());
+    assert!(rt; Key::Truth(true).cmp(&text).is_lt());
+    assert!(rt; text.cmp(&text.copy(rt.alloc())?).is_eq());
     Ok(())
 }
 
