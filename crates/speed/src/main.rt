@@ -1,0 +1,67 @@
+//! Reads and writes as much as its words ask for, for scripts/speed.py to time; without words, a little of
+//! each. Words: what to do, and how many MiB, or how many items.
+#![tactic(auto)]
+
+mod blocks;
+mod books;
+mod texts;
+
+use blocks::block_rounds;
+use books::{book_rounds, encode_rounds, many_items};
+use std::alloc::{AllocError, Global};
+use std::io::{self, Write};
+use std::{env, str};
+use texts::token_count;
+
+/// The number that a word is, or 1.
+fn number_of(word: Option<&String>) -> usize {
+    match word {
+        Some(word) => word.as_str().parse().unwrap_or(1),
+        None => 1,
+    }
+}
+
+/// What is counted for the words.
+fn counted(alloc: Global, what: &str, size: usize) -> Result<u64, AllocError> {
+    match what {
+        "tokens" => token_count(alloc, size, 16_384),
+        "tokens-by-byte" => token_count(alloc, size, 1),
+        "decode" => Ok(book_rounds(alloc, size)),
+        "encode" => Ok(encode_rounds(alloc, size)),
+        "many" => Ok(many_items(alloc, size)),
+        "huffman" => Ok(block_rounds(alloc, true, size)),
+        "indexed" => Ok(block_rounds(alloc, false, size)),
+        _ => Ok(0),
+    }
+}
+
+fn main(rt: HostRuntime) -> io::Result<()> {
+    let alloc = rt.alloc();
+    let mut words = Vec::new(alloc);
+    for word in env::args(&rt)?.skip(1) {
+        words.push(word)?;
+    }
+    let size = number_of(words.get(1));
+    let mut out = io::writer(&rt);
+    match words.first() {
+        Some(what) => {
+            let count = counted(alloc, what.as_str(), size)?;
+            out.write_all(format!(in alloc; "{count}\n")?.as_bytes())
+        }
+        None => {
+            for what in [
+                "tokens",
+                "tokens-by-byte",
+                "decode",
+                "encode",
+                "huffman",
+                "indexed",
+            ] {
+                let count = counted(alloc, what, 0)?;
+                out.write_all(format!(in alloc; "{what} {count}\n")?.as_bytes())?;
+            }
+            let count = counted(alloc, "many", 100)?;
+            out.write_all(format!(in alloc; "many {count}\n")?.as_bytes())
+        }
+    }
+}
