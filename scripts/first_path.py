@@ -17,7 +17,8 @@ sys.path.insert(0, str(ROOT / "scripts"))
 from program import built  # noqa: E402
 from sample_sets import num, text  # noqa: E402
 
-USAGE, SET, READ, WRITE = "usage\n", "descriptors: not built\n", "read fault\n", "write fault\n"
+USAGE, READ, WRITE = "usage\n", "read fault\n", "write fault\n"
+CUT, NOT_BUILT, LONG = ("descriptors: Wire at 0 Short\n", "descriptors: not built\n", "descriptors: TooLong\n")
 
 
 def frame(payload):
@@ -46,11 +47,11 @@ def rows(folder):
     long = "/v1/items/" + "x" * 16374
     yield "a target of 16,384 bytes", ["bind", items, "GET", long], None, "", 0
     for label, name, line, status in [
-        ("the set without its last byte", "short.bin", SET, 3),
-        ("an empty set", "empty.bin", SET, 3),
+        ("the set without its last byte", "short.bin", CUT, 3),
+        ("an empty set", "empty.bin", NOT_BUILT, 3),
         ("a set of 16,777,216 bytes", "edge.bin", "", 0),
-        ("a set of 16,777,217 bytes", "long.bin", SET, 3),
-        ("a set of 17 MiB", "longer.bin", SET, 3),
+        ("a set of 16,777,217 bytes", "long.bin", LONG, 3),
+        ("a set of 17 MiB", "longer.bin", LONG, 3),
         ("a missing set", "lost.bin", READ, 4),
         ("a directory as set", ".", READ, 4),
         ("an empty name", None, READ, 4),

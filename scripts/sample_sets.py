@@ -5,8 +5,9 @@ usage: sample_sets.py [--check]
 
 It writes
   crates/grpcjson/data/items.bin       the set of items.proto, without imports
-  crates/gateway_run/src/tests/sets.rt the sets of the first path: for each point of the form that is
-                                       read, one that breaks it alone and one at its edge
+  crates/gateway_run/src/tests/sets.rt the sets of the first path: for each fault of a set and each point
+                                       of the form that is served, one that breaks it alone and one at
+                                       its edge
 With --check it writes nothing, and fails where a file differs from what it would write.
 """
 import pathlib
@@ -123,133 +124,177 @@ ENUM = text(1, "E") + text(2, text(1, "ZERO") + num(2, 0))
 NAMES = [field(), field("b_c", 2, json="bC")]
 SHORT = "/v1/items/x"
 
-# label, set, target, whether the set is of the form that is read
+READ, NOT_BUILT = "read", "not built"
+
+
+def nested(depth):
+    """DescriptorProto with so many levels of messages."""
+    out = message("N", [])
+    for _ in range(depth - 1):
+        out = message("N", [], text(3, out))
+    return out
+
+
+def groups(depth):
+    """So many groups in one another."""
+    return tag(100, 3) * depth + tag(100, 4) * depth
+
+
+# label, set, target, whether the set is served, or why not
 CASES = [
-    ("the sample set", ITEMS, SHORT, True),
-    ("without its last byte", ITEMS[:-1], SHORT, False),
-    ("empty", b"", SHORT, False),
-    ("two files", fileset(file(), file(name="b.proto")), SHORT, False),
+    ("the sample set", ITEMS, SHORT, READ),
+    ("without its last byte", ITEMS[:-1], SHORT, "Wire at 0 Short"),
+    ("empty", b"", SHORT, NOT_BUILT),
+    ("two files", fileset(file(), file(name="b.proto")), SHORT, NOT_BUILT),
     # records
-    ("an unlisted LEN record", fileset(file(more=text(9, b"\xff"))), SHORT, True),
-    ("an unlisted VARINT record", fileset(file(more=num(100, 7))), SHORT, True),
-    ("an unlisted I64 record", fileset(file(more=tag(100, 1) + bytes(8))), SHORT, False),
-    ("an unlisted I32 record", fileset(file(more=tag(100, 5) + bytes(4))), SHORT, False),
-    ("an unlisted group", fileset(file(more=tag(100, 3) + tag(100, 4))), SHORT, False),
-    ("an unlisted wire type 6", fileset(file(more=tag(100, 6))), SHORT, False),
-    ("a record at the set's level", ITEMS + num(2, 1), SHORT, True),
-    ("an I32 record at the set's level", ITEMS + tag(2, 5) + bytes(4), SHORT, False),
-    ("a tag of two bytes", fileset(file(more=num(16, 1))), SHORT, True),
-    ("a tag of one byte more than it needs", fileset(file(more=tag(15, 0, 2) + b"\x01")), SHORT, False),
-    ("the tag number 0", fileset(file(more=num(0, 1))), SHORT, False),
-    ("the tag number 536,870,911", fileset(file(more=num(536870911, 1))), SHORT, True),
-    ("the tag number 536,870,912", fileset(file(more=num(536870912, 1))), SHORT, False),
-    ("a varint of 10 bytes", fileset(file(more=num(100, 1, 10))), SHORT, True),
-    ("a varint of 11 bytes", fileset(file(more=num(100, 1, 11))), SHORT, False),
-    ("a length of 10 bytes", fileset(file(more=tag(100, 2) + varint(1, 10) + b"a")), SHORT, True),
-    ("a length of 11 bytes", fileset(file(more=tag(100, 2) + varint(1, 11) + b"a")), SHORT, False),
-    ("a length past the end", fileset(file(more=tag(100, 2) + varint(2) + b"a")), SHORT, False),
-    ("a number of 10 bytes", of_field(number=None, more=num(3, 1, 10)), SHORT, True),
-    ("a number of 11 bytes", of_field(number=None, more=num(3, 1, 11)), SHORT, False),
-    ("a number cut to 32 bits", of_field(number=(1 << 32) + 1), SHORT, True),
-    ("a text that is not UTF-8", fileset(file(name=b"\xff.proto")), SHORT, False),
-    ("a text that is cut in a character", fileset(file(name=b"\xe2\x82")), SHORT, False),
-    ("a text of all lengths of characters", fileset(file(name="a\u00e9\u20ac\U0001f600")), SHORT, True),
-    ("a template that is not UTF-8", of_rule(b"/v1/\xff/{id}"), SHORT, False),
-    ("an unlisted text that is not UTF-8", of_field(more=text(7, b"\xff")), SHORT, True),
-    ("a listed text as VARINT", fileset(file(more=num(2, 1), package=None)), SHORT, False),
-    ("a listed number as LEN", of_field(label=None, more=text(4, "a")), SHORT, False),
-    ("a listed message as VARINT", fileset(file(more=num(5, 1))), SHORT, False),
-    ("a file's name twice", fileset(file(more=text(1, "a.proto"))), SHORT, False),
-    ("a field's number twice", of_field(more=num(3, 1)), SHORT, False),
-    ("a rule's body twice", of_rule(more=text(7, "") + text(7, "")), SHORT, False),
-    ("method options twice", of_method(more=text(4, b"")), SHORT, False),
-    ("an unlisted field twice", of_field(more=text(7, "a") + text(7, "b")), SHORT, True),
+    ("an unlisted LEN record", fileset(file(more=text(9, b"\xff"))), SHORT, READ),
+    ("an unlisted VARINT record", fileset(file(more=num(100, 7))), SHORT, READ),
+    ("an unlisted I64 record", fileset(file(more=tag(100, 1) + bytes(8))), SHORT, READ),
+    ("an unlisted I32 record", fileset(file(more=tag(100, 5) + bytes(4))), SHORT, READ),
+    ("an unlisted group", fileset(file(more=tag(100, 3) + tag(100, 4))), SHORT, READ),
+    ("an unlisted wire type 6", fileset(file(more=tag(100, 6))), SHORT, "Wire at 83 BadTag"),
+    ("a record at the set's level", ITEMS + num(2, 1), SHORT, READ),
+    ("an I32 record at the set's level", ITEMS + tag(2, 5) + bytes(4), SHORT, READ),
+    ("a tag of two bytes", fileset(file(more=num(16, 1))), SHORT, READ),
+    ("a tag of one byte more than it needs", fileset(file(more=tag(15, 0, 2) + b"\x01")), SHORT, READ),
+    ("the tag number 0", fileset(file(more=num(0, 1))), SHORT, "Wire at 83 BadTag"),
+    ("the tag number 536,870,911", fileset(file(more=num(536870911, 1))), SHORT, READ),
+    ("the tag number 536,870,912", fileset(file(more=num(536870912, 1))), SHORT, "Wire at 83 BadTag"),
+    ("a varint of 10 bytes", fileset(file(more=num(100, 1, 10))), SHORT, READ),
+    ("a varint of 11 bytes", fileset(file(more=num(100, 1, 11))), SHORT, "Wire at 83 LongVarint"),
+    ("a length of 10 bytes", fileset(file(more=tag(100, 2) + varint(1, 10) + b"a")), SHORT, READ),
+    ("a length of 11 bytes", fileset(file(more=tag(100, 2) + varint(1, 11) + b"a")), SHORT, "Wire at 83 LongVarint"),
+    ("a length past the end of its file", fileset(file() + tag(100, 2) + varint(1)), SHORT, "Wire at 91 Short"),
+    ("a length past the end", fileset(file(more=tag(100, 2) + varint(2) + b"a")), SHORT, "Wire at 88 BadTag"),
+    ("a number of 10 bytes", of_field(number=None, more=num(3, 1, 10)), SHORT, READ),
+    ("a number of 11 bytes", of_field(number=None, more=num(3, 1, 11)), SHORT, "Wire at 29 LongVarint"),
+    ("a number cut to 32 bits", of_field(number=(1 << 32) + 1), SHORT, READ),
+    ("a text that is not UTF-8", fileset(file(name=b"\xff.proto")), SHORT, "NotUtf8 at 2"),
+    ("a text that is cut in a character", fileset(file(name=b"\xe2\x82")), SHORT, "NotUtf8 at 2"),
+    ("a text of all lengths of characters", fileset(file(name="a\u00e9\u20ac\U0001f600")), SHORT, READ),
+    ("a template that is not UTF-8", of_rule(b"/v1/\xff/{id}"), SHORT, "NotUtf8 at 67"),
+    ("an unlisted text that is not UTF-8", of_field(more=text(7, b"\xff")), SHORT, READ),
+    ("a listed text as VARINT", fileset(file(more=num(2, 1), package=None)), SHORT, NOT_BUILT),
+    ("a listed number as LEN", of_field(label=None, more=text(4, "a")), SHORT, NOT_BUILT),
+    ("a listed message as VARINT", fileset(file(more=num(5, 1))), SHORT, READ),
+    ("a file's name twice", fileset(file(more=text(1, "a.proto"))), SHORT, READ),
+    ("a field's number twice", of_field(more=num(3, 1)), SHORT, READ),
+    ("a rule's body twice", of_rule(more=text(7, "") + text(7, "")), SHORT, READ),
+    ("method options twice", of_method(more=text(4, b"")), SHORT, READ),
+    ("an unlisted field twice", of_field(more=text(7, "a") + text(7, "b")), SHORT, READ),
+    # faults of groups and of depth
+    ("a group that is open", fileset(file(more=tag(100, 3))), SHORT, "Wire at 83 BadGroup"),
+    ("a group's end alone", fileset(file(more=tag(100, 4))), SHORT, "Wire at 83 BadGroup"),
+    ("a group with the end of another", fileset(file(more=tag(100, 3) + tag(101, 4))), SHORT, "Wire at 85 BadGroup"),
+    ("groups in 100 levels", fileset(file(more=groups(98))), SHORT, READ),
+    ("groups in 101 levels", fileset(file(more=groups(99))), SHORT, "Wire at 280 TooDeep"),
+    ("messages in 100 levels", fileset(file(more=text(4, nested(98)))), SHORT, NOT_BUILT),
+    ("messages in 101 levels", fileset(file(more=text(4, nested(99)))), SHORT, "Wire at 648 TooDeep"),
+    # two faults: the first counts
+    ("a text that is not UTF-8 before a bad tag", fileset(file(name=b"\xff", more=num(0, 1))), SHORT, "NotUtf8 at 2"),
+    ("a bad tag before a text that is not UTF-8", fileset(num(0, 1) + file(name=b"\xff")), SHORT, "Wire at 2 BadTag"),
+    ("a cut record before a text that is not UTF-8", text(1, file(name=b"\xff"))[:-1], SHORT, "Wire at 0 Short"),
+    ("a text that is not UTF-8 before a cut record", fileset(file(name=b"\xff")) + ITEMS[:-1], SHORT, "NotUtf8 at 2"),
+    ("a file that is not UTF-8 behind one that is", fileset(file(), file(name=b"\xff")), SHORT, "NotUtf8 at 93"),
+    ("a fault in a message that a later record replaces", of_method(http=b"", more=text(4, options(text(2, b"\xff"))) + text(4, options(rule()))), SHORT, "NotUtf8 at 67"),
+    # singular fields twice: the last counts, and messages merge
+    ("two templates, the last that of the target", of_rule("/v2/{id}", text(2, "/v1/items/{id}")), SHORT, READ),
+    ("two templates in the other order", of_rule("/v1/items/{id}", text(2, "/v2/{id}")), "/v2/x", READ),
+    ("two syntaxes, the last proto3", fileset(file(more=text(12, "proto2"))), SHORT, READ),
+    ("two syntaxes, the last proto2", fileset(file() + text(12, "proto2")), SHORT, NOT_BUILT),
+    ("method options in two records, one with a body", of_method(more=text(4, options(text(7, "*")))), SHORT, NOT_BUILT),
+    ("method options in two records, one without a rule", of_method(more=text(4, num(33, 1))), SHORT, READ),
     # the file
-    ("no syntax", fileset(file(syntax=None)), SHORT, False),
-    ("syntax proto2", fileset(file(syntax="proto2")), SHORT, False),
-    ("syntax editions", fileset(file(syntax="editions")), SHORT, False),
-    ("package google", fileset(file(package="google")), SHORT, False),
-    ("a package that begins with google", fileset(file(package="google.p")), SHORT, False),
-    ("package googl", fileset(file(package="googl", services=[service(methods=[method(request=".googl.M", response=".googl.M")])])), SHORT, True),
-    ("no package", fileset(file(package=None, services=[service(methods=[method(request=".M", response=".M")])])), SHORT, True),
-    ("an enum in the file", fileset(file(more=text(5, ENUM))), SHORT, False),
-    ("an extension in the file", fileset(file(more=text(7, field()))), SHORT, False),
+    ("no syntax", fileset(file(syntax=None)), SHORT, NOT_BUILT),
+    ("syntax proto2", fileset(file(syntax="proto2")), SHORT, NOT_BUILT),
+    ("syntax editions", fileset(file(syntax="editions")), SHORT, NOT_BUILT),
+    ("package google", fileset(file(package="google")), SHORT, NOT_BUILT),
+    ("a package that begins with google", fileset(file(package="google.p")), SHORT, NOT_BUILT),
+    ("package googl", fileset(file(package="googl", services=[service(methods=[method(request=".googl.M", response=".googl.M")])])), SHORT, READ),
+    ("no package", fileset(file(package=None, services=[service(methods=[method(request=".M", response=".M")])])), SHORT, READ),
+    ("an enum in the file", fileset(file(more=text(5, ENUM))), SHORT, NOT_BUILT),
+    ("an extension in the file", fileset(file(more=text(7, field()))), SHORT, NOT_BUILT),
     # messages
-    ("a nested type", of_message(more=text(3, message("N"))), SHORT, False),
-    ("an enum in a message", of_message(more=text(4, ENUM)), SHORT, False),
-    ("an extension in a message", of_message(more=text(6, field())), SHORT, False),
-    ("message options", of_message(more=text(7, b"")), SHORT, False),
-    ("an oneof without members", of_message(more=text(8, text(1, "o"))), SHORT, True),
-    ("two messages of two names", fileset(file(messages=[message(), message("N")])), SHORT, True),
-    ("two messages of one name", fileset(file(messages=[message(), message("M", [])])), SHORT, False),
-    ("a message that no method names, with a number", fileset(file(messages=[message(), message("N", [field(kind=5)])])), SHORT, False),
+    ("a nested type", of_message(more=text(3, message("N"))), SHORT, NOT_BUILT),
+    ("an enum in a message", of_message(more=text(4, ENUM)), SHORT, NOT_BUILT),
+    ("an extension in a message", of_message(more=text(6, field())), SHORT, NOT_BUILT),
+    ("message options", of_message(more=text(7, b"")), SHORT, READ),
+    ("a message set", of_message(more=text(7, num(1, 1))), SHORT, NOT_BUILT),
+    ("a map's entry", of_message(more=text(7, num(7, 1))), SHORT, NOT_BUILT),
+    ("neither of both, said", of_message(more=text(7, num(1, 0) + num(7, 0))), SHORT, READ),
+    ("a map's entry in the first of two records of options", of_message(more=text(7, num(7, 1)) + text(7, num(3, 1))), SHORT, NOT_BUILT),
+    ("another option of a message", of_message(more=text(7, num(3, 1))), SHORT, READ),
+    ("an oneof without members", of_message(more=text(8, text(1, "o"))), SHORT, READ),
+    ("two messages of two names", fileset(file(messages=[message(), message("N")])), SHORT, READ),
+    ("two messages of one name", fileset(file(messages=[message(), message("M", [])])), SHORT, NOT_BUILT),
+    ("a message that no method names, with a number", fileset(file(messages=[message(), message("N", [field(kind=5)])])), SHORT, NOT_BUILT),
     # fields
-    ("type int32", of_field(kind=5), SHORT, False),
-    ("type bytes", of_field(kind=12), SHORT, False),
-    ("no type", of_field(kind=None), SHORT, False),
-    ("label required", of_field(label=2), SHORT, False),
-    ("label repeated", of_field(label=3), SHORT, False),
-    ("no label", of_field(label=None), SHORT, False),
-    ("an oneof index", of_message(fields=[field(more=num(9, 0))], more=text(8, text(1, "o"))), SHORT, False),
-    ("proto3 optional", of_field(more=num(17, 1)), SHORT, False),
-    ("proto3 optional said to be false", of_field(more=num(17, 0)), SHORT, True),
-    ("field number 0", of_field(number=0), SHORT, False),
-    ("field number -1", of_field(number=-1), SHORT, False),
-    ("field number 536,870,911", of_field(number=536870911), SHORT, True),
-    ("field number 536,870,912", of_field(number=536870912), SHORT, False),
-    ("two fields", of_message(fields=NAMES), SHORT, True),
-    ("two fields of one number", of_message(fields=[field(), field("b", 1, json="b")]), SHORT, False),
-    ("two fields of one name", of_message(fields=[field(), field("id", 2, json="b")]), SHORT, False),
-    ("two fields of one JSON name", of_message(fields=[field(), field("b", 2, json="id")]), SHORT, False),
-    ("a name that is another's JSON name", of_message(fields=[field(json="b"), field("b", 2, json="c")]), SHORT, False),
-    ("two names that give one JSON name", of_message(fields=[field(json=None), field("i_d", 2, json=None), field("iD", 3, json=None)]), SHORT, False),
-    ("an absent JSON name", of_field(json=None), SHORT, True),
-    ("a present, empty JSON name", of_field(json=""), SHORT, True),
+    ("type int32", of_field(kind=5), SHORT, NOT_BUILT),
+    ("type bytes", of_field(kind=12), SHORT, NOT_BUILT),
+    ("no type", of_field(kind=None), SHORT, NOT_BUILT),
+    ("label required", of_field(label=2), SHORT, NOT_BUILT),
+    ("label repeated", of_field(label=3), SHORT, NOT_BUILT),
+    ("no label", of_field(label=None), SHORT, NOT_BUILT),
+    ("an oneof index", of_message(fields=[field(more=num(9, 0))], more=text(8, text(1, "o"))), SHORT, NOT_BUILT),
+    ("proto3 optional", of_field(more=num(17, 1)), SHORT, NOT_BUILT),
+    ("proto3 optional said to be false", of_field(more=num(17, 0)), SHORT, READ),
+    ("field number 0", of_field(number=0), SHORT, NOT_BUILT),
+    ("field number -1", of_field(number=-1), SHORT, NOT_BUILT),
+    ("field number 536,870,911", of_field(number=536870911), SHORT, READ),
+    ("field number 536,870,912", of_field(number=536870912), SHORT, NOT_BUILT),
+    ("two fields", of_message(fields=NAMES), SHORT, READ),
+    ("two fields of one number", of_message(fields=[field(), field("b", 1, json="b")]), SHORT, NOT_BUILT),
+    ("two fields of one name", of_message(fields=[field(), field("id", 2, json="b")]), SHORT, NOT_BUILT),
+    ("two fields of one JSON name", of_message(fields=[field(), field("b", 2, json="id")]), SHORT, NOT_BUILT),
+    ("a name that is another's JSON name", of_message(fields=[field(json="b"), field("b", 2, json="c")]), SHORT, NOT_BUILT),
+    ("two names that give one JSON name", of_message(fields=[field(json=None), field("i_d", 2, json=None), field("iD", 3, json=None)]), SHORT, NOT_BUILT),
+    ("an absent JSON name", of_field(json=None), SHORT, READ),
+    ("a present, empty JSON name", of_field(json=""), SHORT, READ),
     # the service
-    ("no service", fileset(file(services=[])), SHORT, False),
-    ("two services", fileset(file(services=[service(), service("T", [])])), SHORT, False),
-    ("no method", fileset(file(services=[service(methods=[])])), SHORT, False),
-    ("two methods", fileset(file(services=[service(methods=[method(), method("Put", http=b"")])])), SHORT, False),
-    ("a client that streams", of_method(more=num(5, 1)), SHORT, False),
-    ("a server that streams", of_method(more=num(6, 1)), SHORT, False),
-    ("neither streams, said", of_method(more=num(5, 0) + num(6, 0)), SHORT, True),
-    ("a request of another name", of_method(request=".p.N"), SHORT, False),
-    ("a request without its leading dot", of_method(request="p.M"), SHORT, False),
-    ("a response of another name", of_method(response=".q.M"), SHORT, False),
-    ("a response that is another message", fileset(file(messages=[message(), message("N")], services=[service(methods=[method(response=".p.N")])])), SHORT, True),
+    ("no service", fileset(file(services=[])), SHORT, NOT_BUILT),
+    ("two services", fileset(file(services=[service(), service("T", [])])), SHORT, NOT_BUILT),
+    ("no method", fileset(file(services=[service(methods=[])])), SHORT, NOT_BUILT),
+    ("two methods", fileset(file(services=[service(methods=[method(), method("Put", http=b"")])])), SHORT, NOT_BUILT),
+    ("a client that streams", of_method(more=num(5, 1)), SHORT, NOT_BUILT),
+    ("a server that streams", of_method(more=num(6, 1)), SHORT, NOT_BUILT),
+    ("neither streams, said", of_method(more=num(5, 0) + num(6, 0)), SHORT, READ),
+    ("a request of another name", of_method(request=".p.N"), SHORT, NOT_BUILT),
+    ("a request without its leading dot", of_method(request="p.M"), SHORT, NOT_BUILT),
+    ("a response of another name", of_method(response=".q.M"), SHORT, NOT_BUILT),
+    ("a response that is another message", fileset(file(messages=[message(), message("N")], services=[service(methods=[method(response=".p.N")])])), SHORT, READ),
     # the rule
-    ("no rule", of_method(http=b""), SHORT, False),
-    ("an empty rule", of_method(http=b"", more=text(4, options(b""))), SHORT, False),
-    ("a POST", of_method(http=text(4, "/v1/items/{id}")), SHORT, False),
-    ("a GET behind a PUT", of_method(http=text(3, "/v1/{id}") + rule()), SHORT, True),
-    ("a PUT behind a GET", of_rule(more=text(3, "/v1/{id}")), SHORT, False),
-    ("a custom pattern", of_method(http=text(8, text(1, "GET") + text(2, "/v1/items/{id}"))), SHORT, False),
-    ("a body", of_rule(more=text(7, "*")), SHORT, False),
-    ("an empty body", of_rule(more=text(7, "")), SHORT, True),
-    ("a response body", of_rule(more=text(12, "id")), SHORT, False),
-    ("an additional binding", of_rule(more=text(11, rule("/v2/{id}"))), SHORT, False),
+    ("no rule", of_method(http=b""), SHORT, NOT_BUILT),
+    ("an empty rule", of_method(http=b"", more=text(4, options(b""))), SHORT, NOT_BUILT),
+    ("a POST", of_method(http=text(4, "/v1/items/{id}")), SHORT, NOT_BUILT),
+    ("a GET behind a PUT", of_method(http=text(3, "/v1/{id}") + rule()), SHORT, READ),
+    ("a PUT behind a GET", of_rule(more=text(3, "/v1/{id}")), SHORT, NOT_BUILT),
+    ("a custom pattern", of_method(http=text(8, text(1, "GET") + text(2, "/v1/items/{id}"))), SHORT, NOT_BUILT),
+    ("a body", of_rule(more=text(7, "*")), SHORT, NOT_BUILT),
+    ("an empty body", of_rule(more=text(7, "")), SHORT, READ),
+    ("a response body", of_rule(more=text(12, "id")), SHORT, NOT_BUILT),
+    ("an additional binding", of_rule(more=text(11, rule("/v2/{id}"))), SHORT, NOT_BUILT),
     # the template
-    ("a variable alone", of_rule("/{id}"), "/x", True),
-    ("a literal behind the variable", of_rule("/{id}/b"), "/x/b", True),
-    ("each literal byte", of_rule("/azAZ09-._~!$&'()+,;=@/{id}"), "/azAZ09-._~!$&'()+,;=@/x", True),
-    ("64 segments", of_rule("/a" * 63 + "/{id}"), "/a" * 63 + "/x", True),
-    ("65 segments", of_rule("/a" * 64 + "/{id}"), "/a" * 64 + "/x", False),
-    ("no variable", of_rule("/v1/items"), SHORT, False),
-    ("two variables", fileset(file(messages=[message(fields=NAMES)], services=[service(methods=[method(http=rule("/v1/{id}/{b_c}"))])])), SHORT, False),
-    ("one variable twice", of_rule("/v1/{id}/{id}"), SHORT, False),
-    ("a variable of another name", of_rule("/v1/items/{name}"), SHORT, False),
-    ("a variable with its segments", of_rule("/v1/items/{id=*}"), SHORT, False),
-    ("a variable of no name", of_rule("/v1/items/{}"), SHORT, False),
-    ("an open brace", of_rule("/v1/items/{id"), SHORT, False),
-    ("a verb", of_rule("/v1/items/{id}:go"), SHORT, False),
-    ("a wildcard", of_rule("/v1/*/{id}"), SHORT, False),
-    ("a slash at the end", of_rule("/v1/items/{id}/"), SHORT, False),
-    ("no slash at the front", of_rule("v1/items/{id}"), SHORT, False),
-    ("two slashes", of_rule("/v1//{id}"), SHORT, False),
-    ("an escape", of_rule("/v%31/{id}"), SHORT, False),
-    ("a blank", of_rule("/v 1/{id}"), SHORT, False),
-    ("a letter that is not ASCII", of_rule("/v\u00e9/{id}"), SHORT, False),
-    ("an empty template", of_rule(""), SHORT, False),
+    ("a variable alone", of_rule("/{id}"), "/x", READ),
+    ("a literal behind the variable", of_rule("/{id}/b"), "/x/b", READ),
+    ("each literal byte", of_rule("/azAZ09-._~!$&'()+,;=@/{id}"), "/azAZ09-._~!$&'()+,;=@/x", READ),
+    ("64 segments", of_rule("/a" * 63 + "/{id}"), "/a" * 63 + "/x", READ),
+    ("65 segments", of_rule("/a" * 64 + "/{id}"), "/a" * 64 + "/x", NOT_BUILT),
+    ("no variable", of_rule("/v1/items"), SHORT, NOT_BUILT),
+    ("two variables", fileset(file(messages=[message(fields=NAMES)], services=[service(methods=[method(http=rule("/v1/{id}/{b_c}"))])])), SHORT, NOT_BUILT),
+    ("one variable twice", of_rule("/v1/{id}/{id}"), SHORT, NOT_BUILT),
+    ("a variable of another name", of_rule("/v1/items/{name}"), SHORT, NOT_BUILT),
+    ("a variable with its segments", of_rule("/v1/items/{id=*}"), SHORT, NOT_BUILT),
+    ("a variable of no name", of_rule("/v1/items/{}"), SHORT, NOT_BUILT),
+    ("an open brace", of_rule("/v1/items/{id"), SHORT, NOT_BUILT),
+    ("a verb", of_rule("/v1/items/{id}:go"), SHORT, NOT_BUILT),
+    ("a wildcard", of_rule("/v1/*/{id}"), SHORT, NOT_BUILT),
+    ("a slash at the end", of_rule("/v1/items/{id}/"), SHORT, NOT_BUILT),
+    ("no slash at the front", of_rule("v1/items/{id}"), SHORT, NOT_BUILT),
+    ("two slashes", of_rule("/v1//{id}"), SHORT, NOT_BUILT),
+    ("an escape", of_rule("/v%31/{id}"), SHORT, NOT_BUILT),
+    ("a blank", of_rule("/v 1/{id}"), SHORT, NOT_BUILT),
+    ("a letter that is not ASCII", of_rule("/v\u00e9/{id}"), SHORT, NOT_BUILT),
+    ("an empty template", of_rule(""), SHORT, NOT_BUILT),
 ]
 
 
@@ -268,15 +313,15 @@ def literal(data):
 
 
 def table():
-    rows = "".join(f"{label}|{target}|{'read' if built else 'refused'}|{data.hex()}\\n\\\n" for label, data, target, built in CASES)
+    rows = "".join(f"{label}|{target}|{verdict}|{data.hex()}\\n\\\n" for label, data, target, verdict in CASES)
     return f"""//! Descriptor sets, as scripts/sample_sets.py makes them.
 
 /// The set of one service with one GET rule, `/v1/items/{{id}}`.
 #[rattlefmt::skip]
 pub(crate) const ITEMS: &[u8] = {literal(ITEMS)};
 
-/// A line for each set: a label, a target that its template fits, whether it is of the form that is
-/// read, and its bytes in hexadecimal, between bars.
+/// A line for each set: a label, a target that its template fits, `read` where it is served and else
+/// why not, and its bytes in hexadecimal, between bars.
 #[rattlefmt::skip]
 pub(crate) const CASES: &str = "\\
 {rows}";

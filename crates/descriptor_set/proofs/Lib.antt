@@ -1,4 +1,1 @@
 pub mod LevelLemmas
-pub mod OpenLemmas
-pub mod PatternLemmas
-pub mod RecordLemmas

@@ -1,8 +1,9 @@
-pub use Rattle.wire_format.specs.FieldValues
-pub use Rattle.wire_format.specs.PlainRecords
-pub use Rattle.wire_format.specs.WireRecord
-pub mod RecordFields
-pub mod PatternParts
-pub mod SetForm
+pub use Rattle.schema.specs.Layers
+pub use Rattle.schema.specs.Value
+pub use Rattle.wire_format.specs.Decoding
+pub use Rattle.wire_format.specs.WireFaults
+pub mod DescriptorTypes
+pub mod FieldContents
 pub mod DescriptorFields
-pub mod ReadOutcome
+pub mod SetReading
+pub mod SetExamples

@@ -1,19 +1,23 @@
-//! Reads a FileDescriptorSet (descriptor.proto) as `protoc --descriptor_set_out` writes it.
+//! Reads a FileDescriptorSet (descriptor.proto, google/api/http.proto) as `protoc
+//! --descriptor_set_out` writes it.
 //!
-//! Only the fields that the gateway needs are read, and all others are skipped. So far a set is read
-//! where its messages have VARINT and LEN records alone, each singular field once, and no message
-//! options. Begin with `read_set`.
+//! The set is decoded as a message whose types have the listed fields alone, so that all others are
+//! skipped, and its value is taken into structs. What is declared is not judged here. Begin with
+//! `read_set`.
 #![tactic(auto)]
 
+mod described;
+mod descriptor_types;
+mod examples;
 mod fault;
-mod field_numbers;
+mod field_contents;
 mod file_set;
-mod level;
 mod message_reader;
 mod rule_reader;
 mod service_reader;
 mod set_reader;
 
+pub use examples::set_examples;
 pub use fault::SetFault;
 pub use file_set::{
     EnumInfo, FieldInfo, FileInfo, FileSet, HttpInfo, MessageInfo, PatternInfo, RpcInfo,

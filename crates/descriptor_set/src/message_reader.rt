@@ -1,205 +1,181 @@
-//! Messages, their fields, oneofs and enums (descriptor.proto). `levels` is how many levels of
-//! messages may still be entered, this one included.
-ghost use Rattle.std.specs.List.{list_all};
-ghost use Rattle.std.specs.Prelude.{◌≡◌, map, option_map, None};
-ghost use Rattle.descriptor_set.specs.DescriptorFields.{oneof_name, enum_value, enum_info, packed_option, field_info, message_by, message_info};
-ghost use Rattle.descriptor_set.specs.ReadOutcome.{Reads};
-ghost use Rattle.descriptor_set.specs.RecordFields.{message_field};
-ghost use Rattle.descriptor_set.specs.SetForm.{oneof_form, enum_value_form, enum_form, packed_form, field_form, message_parts, message_form, IsLevelOf};
+//! Messages, their fields, oneofs and enums (descriptor.proto), by their values.
+ghost use Rattle.std.specs.Prelude.{◌≡◌, map, IfOk};
+ghost use Rattle.descriptor_set.specs.DescriptorFields.{enum_info, enum_value, field_info, message_by, message_info, message_option, no_message as declares_nothing, oneof_name};
+ghost use Rattle.descriptor_set.specs.FieldContents.{truth_at, message_at};
+ghost use Rattle.std.specs.Prelude.{option_and_then};
 
-use crate::fault::SetFault;
-use crate::field_numbers::Described;
+use crate::field_contents::{
+    int, int_or_zero, is_set, message, messages, text, text_or_empty, truth,
+};
 use crate::file_set::{EnumInfo, FieldInfo, MessageInfo};
-use crate::level::Level;
-use schema::{EnumValue, List, Text};
+use schema::{EnumValue, List, NoMemory, Text, Value};
 use std::alloc::Global;
 
-/// OneofDescriptorProto: its name.
-fn read_oneof(alloc: Global, bytes: &[u8], levels: u32) -> Result<Text, SetFault>
-    ensures { Reads (oneof_form levels bytes.now) (oneof_name levels bytes.now) result }
-{
-    if levels == 0 {
-        return Err(SetFault::NotBuilt);
-    }
-    let level = Level::read(alloc, Described::Oneof, bytes)?;
-    Ok(level.text_or_empty(alloc, 1)?)
-}
-
 /// EnumValueDescriptorProto.
-fn read_enum_value(alloc: Global, bytes: &[u8], levels: u32) -> Result<EnumValue, SetFault>
-    ensures { Reads (enum_value_form levels bytes.now) (enum_value levels bytes.now) result }
+fn read_enum_value(alloc: Global, value: &Value) -> Result<EnumValue, NoMemory>
+    ensures { IfOk result (λ read. read ≡ enum_value value.now) }
 {
-    if levels == 0 {
-        return Err(SetFault::NotBuilt);
-    }
-    let level = Level::read(alloc, Described::EnumValue, bytes)?;
     Ok(EnumValue {
-        name: level.text_or_empty(alloc, 1)?,
-        number: level.int_or_zero(2),
+        name: text_or_empty(alloc, value, 1)?,
+        number: int_or_zero(value, 2),
     })
 }
 
 /// The values of an EnumDescriptorProto.
-fn read_enum_values(
-    alloc: Global,
-    messages: &[&[u8]],
-    levels: u32,
-) -> Result<List<EnumValue>, SetFault>
-    ensures { Reads (list_all (enum_value_form levels) (map (λ b. b.now) messages.now)) (map (enum_value levels) (map (λ b. b.now) messages.now)) result }
+fn read_enum_values(alloc: Global, values: &[&Value]) -> Result<List<EnumValue>, NoMemory>
+    ensures { IfOk result (λ read. read ≡ map enum_value (map (λ v. v.now) values.now)) }
 {
-    let mut values = List::new(alloc);
-    for bytes in messages {
-        values.push(read_enum_value(alloc, bytes, levels)?)?;
+    let mut read = List::new(alloc);
+    for value in values {
+        read.push(read_enum_value(alloc, value)?)?;
     }
-    Ok(values)
+    Ok(read)
 }
 
 /// EnumDescriptorProto.
-fn read_enum(alloc: Global, bytes: &[u8], levels: u32) -> Result<EnumInfo, SetFault>
-    ensures { Reads (enum_form levels bytes.now) (enum_info levels bytes.now) result }
+fn read_enum(alloc: Global, value: &Value) -> Result<EnumInfo, NoMemory>
+    ensures { IfOk result (λ read. read ≡ enum_info value.now) }
 {
-    if levels == 0 {
-        return Err(SetFault::NotBuilt);
-    }
-    let level = Level::read(alloc, Described::Enum, bytes)?;
-    let values = level.messages(alloc, 2)?;
+    let values = messages(alloc, value, 2)?;
     Ok(EnumInfo {
-        name: level.text_or_empty(alloc, 1)?,
-        value: read_enum_values(alloc, values.as_slice(), levels - 1)?,
+        name: text_or_empty(alloc, value, 1)?,
+        value: read_enum_values(alloc, values.as_slice())?,
     })
 }
 
 /// The enums of a file or a message.
-pub(crate) fn read_enums(
-    alloc: Global,
-    messages: &[&[u8]],
-    levels: u32,
-) -> Result<List<EnumInfo>, SetFault>
-    ensures { Reads (list_all (enum_form levels) (map (λ b. b.now) messages.now)) (map (enum_info levels) (map (λ b. b.now) messages.now)) result }
+pub(crate) fn read_enums(alloc: Global, values: &[&Value]) -> Result<List<EnumInfo>, NoMemory>
+    ensures { IfOk result (λ read. read ≡ map enum_info (map (λ v. v.now) values.now)) }
 {
-    let mut enums = List::new(alloc);
-    for bytes in messages {
-        enums.push(read_enum(alloc, bytes, levels)?)?;
+    let mut read = List::new(alloc);
+    for value in values {
+        read.push(read_enum(alloc, value)?)?;
     }
-    Ok(enums)
+    Ok(read)
 }
 
 /// The option packed of FieldOptions.
-fn read_packed(alloc: Global, options: Option<&[u8]>, levels: u32) -> Result<Option<bool>, SetFault>
-    ensures { Reads (packed_form levels (option_map (λ b. b.now) options.entry)) (packed_option levels (option_map (λ b. b.now) options.entry)) result }
+fn packed_option(field: &Value) -> Option<bool>
+    ensures { result ≡ option_and_then (λ options. truth_at options 2) (message_at field.now 8) }
 {
-    match options {
-        Some(bytes) => {
-            if levels == 0 {
-                return Err(SetFault::NotBuilt);
-            }
-            let level = Level::read(alloc, Described::FieldOptions, bytes)?;
-            Ok(level.truth(2))
-        }
-        None => Ok(None),
+    match message(field, 8) {
+        Some(options) => truth(options, 2),
+        None => None,
     }
 }
 
 /// FieldDescriptorProto.
-fn read_field(alloc: Global, bytes: &[u8], levels: u32) -> Result<FieldInfo, SetFault>
-    ensures { Reads (field_form levels bytes.now) (field_info levels bytes.now) result }
+fn read_field(alloc: Global, value: &Value) -> Result<FieldInfo, NoMemory>
+    ensures { IfOk result (λ read. read ≡ field_info value.now) }
 {
-    if levels == 0 {
-        return Err(SetFault::NotBuilt);
-    }
-    let level = Level::read(alloc, Described::Field, bytes)?;
     Ok(FieldInfo {
-        name: level.text_or_empty(alloc, 1)?,
-        extendee: level.text_or_empty(alloc, 2)?,
-        number: level.int_or_zero(3),
-        label: level.int_or_zero(4),
-        type_number: level.int_or_zero(5),
-        type_name: level.text_or_empty(alloc, 6)?,
-        packed: read_packed(alloc, level.message(8), levels - 1)?,
-        oneof_index: level.int(9),
-        json_name: level.text(alloc, 10)?,
-        proto3_optional: level.is_set(17),
+        name: text_or_empty(alloc, value, 1)?,
+        extendee: text_or_empty(alloc, value, 2)?,
+        number: int_or_zero(value, 3),
+        label: int_or_zero(value, 4),
+        type_number: int_or_zero(value, 5),
+        type_name: text_or_empty(alloc, value, 6)?,
+        packed: packed_option(value),
+        oneof_index: int(value, 9),
+        json_name: text(alloc, value, 10)?,
+        proto3_optional: is_set(value, 17),
     })
 }
 
 /// The fields or the extensions of a message, or the extensions of a file.
-pub(crate) fn read_fields(
-    alloc: Global,
-    messages: &[&[u8]],
-    levels: u32,
-) -> Result<List<FieldInfo>, SetFault>
-    ensures { Reads (list_all (field_form levels) (map (λ b. b.now) messages.now)) (map (field_info levels) (map (λ b. b.now) messages.now)) result }
+pub(crate) fn read_fields(alloc: Global, values: &[&Value]) -> Result<List<FieldInfo>, NoMemory>
+    ensures { IfOk result (λ read. read ≡ map field_info (map (λ v. v.now) values.now)) }
 {
-    let mut fields = List::new(alloc);
-    for bytes in messages {
-        fields.push(read_field(alloc, bytes, levels)?)?;
+    let mut read = List::new(alloc);
+    for value in values {
+        read.push(read_field(alloc, value)?)?;
     }
-    Ok(fields)
+    Ok(read)
 }
 
-/// The names of the oneofs of a message.
-fn read_oneofs(alloc: Global, messages: &[&[u8]], levels: u32) -> Result<List<Text>, SetFault>
-    ensures { Reads (list_all (oneof_form levels) (map (λ b. b.now) messages.now)) (map (oneof_name levels) (map (λ b. b.now) messages.now)) result }
+/// The names of the oneofs of a message (OneofDescriptorProto).
+fn read_oneofs(alloc: Global, values: &[&Value]) -> Result<List<Text>, NoMemory>
+    ensures { IfOk result (λ read. read ≡ map oneof_name (map (λ v. v.now) values.now)) }
 {
-    let mut names = List::new(alloc);
-    for bytes in messages {
-        names.push(read_oneof(alloc, bytes, levels)?)?;
+    let mut read = List::new(alloc);
+    for value in values {
+        read.push(text_or_empty(alloc, value, 1)?)?;
     }
-    Ok(names)
+    Ok(read)
 }
 
-/// DescriptorProto, by its records; it has no options.
-#[cycle(message)]
-fn read_parts(alloc: Global, level: &Level<'_>, levels: u32) -> Result<MessageInfo, SetFault>
-    requires level { IsLevelOf Described.Message level.now }
-    requires options { message_field 7 level.now ≡ None }
-    ensures { Reads (message_parts (message_form levels) levels level.now) (message_by (message_info levels) levels level.now) result }
+/// An option of a message (MessageOptions), by its number.
+fn has_option(value: &Value, number: u32) -> bool
+    ensures { result ≡ message_option number value.now }
 {
-    let fields = level.messages(alloc, 2)?;
-    let nested = level.messages(alloc, 3)?;
-    let enums = level.messages(alloc, 4)?;
-    let extensions = level.messages(alloc, 6)?;
-    let oneofs = level.messages(alloc, 8)?;
-    Ok(MessageInfo {
-        name: level.text_or_empty(alloc, 1)?,
-        field: read_fields(alloc, fields.as_slice(), levels)?,
-        nested_type: read_messages(alloc, nested.as_slice(), levels)?,
-        enum_type: read_enums(alloc, enums.as_slice(), levels)?,
-        extension: read_fields(alloc, extensions.as_slice(), levels)?,
+    match message(value, 7) {
+        Some(options) => is_set(options, number),
+        None => false,
+    }
+}
+
+/// A message that declares nothing.
+fn no_message(alloc: Global) -> MessageInfo
+    ensures { result ≡ declares_nothing }
+{
+    MessageInfo {
+        name: Text::new(alloc),
+        field: List::new(alloc),
+        nested_type: List::new(alloc),
+        enum_type: List::new(alloc),
+        extension: List::new(alloc),
         message_set_wire_format: false,
         map_entry: false,
-        oneof_decl: read_oneofs(alloc, oneofs.as_slice(), levels)?,
+        oneof_decl: List::new(alloc),
+    }
+}
+
+/// DescriptorProto, with so many levels of messages in it.
+#[cycle(message)]
+fn read_parts(alloc: Global, value: &Value, levels: u32) -> Result<MessageInfo, NoMemory>
+    ensures { IfOk result (λ read. read ≡ message_by (message_info levels) value.now) }
+{
+    let fields = messages(alloc, value, 2)?;
+    let nested = messages(alloc, value, 3)?;
+    let enums = messages(alloc, value, 4)?;
+    let extensions = messages(alloc, value, 6)?;
+    let oneofs = messages(alloc, value, 8)?;
+    Ok(MessageInfo {
+        name: text_or_empty(alloc, value, 1)?,
+        field: read_fields(alloc, fields.as_slice())?,
+        nested_type: read_messages(alloc, nested.as_slice(), levels)?,
+        enum_type: read_enums(alloc, enums.as_slice())?,
+        extension: read_fields(alloc, extensions.as_slice())?,
+        message_set_wire_format: has_option(value, 1),
+        map_entry: has_option(value, 7),
+        oneof_decl: read_oneofs(alloc, oneofs.as_slice())?,
     })
 }
 
-/// DescriptorProto.
+/// DescriptorProto, with so many levels of messages, this one included.
 #[cycle(message)]
-#[tactic(auto, using(crate::proofs::OpenLemmas::message_not_level, crate::proofs::OpenLemmas::no_options))]
-fn read_message(alloc: Global, bytes: &[u8], levels: u32) -> Result<MessageInfo, SetFault>
-    ensures { Reads (message_form levels bytes.now) (message_info levels bytes.now) result }
+#[tactic(auto, using(crate::proofs::LevelLemmas::message_none, crate::proofs::LevelLemmas::message_opens))]
+fn read_message(alloc: Global, value: &Value, levels: u32) -> Result<MessageInfo, NoMemory>
+    ensures { IfOk result (λ read. read ≡ message_info levels value.now) }
 {
     if levels == 0 {
-        return Err(SetFault::NotBuilt);
+        return Ok(no_message(alloc));
     }
-    let level = Level::read(alloc, Described::Message, bytes)?;
-    if level.has(7) {
-        return Err(SetFault::NotBuilt);
-    }
-    read_parts(alloc, &level, levels - 1)
+    read_parts(alloc, value, levels - 1)
 }
 
 /// The messages of a file or a message.
 #[cycle(message)]
 pub(crate) fn read_messages(
     alloc: Global,
-    messages: &[&[u8]],
+    values: &[&Value],
     levels: u32,
-) -> Result<List<MessageInfo>, SetFault>
-    ensures { Reads (list_all (message_form levels) (map (λ b. b.now) messages.now)) (map (message_info levels) (map (λ b. b.now) messages.now)) result }
+) -> Result<List<MessageInfo>, NoMemory>
+    ensures { IfOk result (λ read. read ≡ map (message_info levels) (map (λ v. v.now) values.now)) }
 {
     let mut read = List::new(alloc);
-    for bytes in messages {
-        read.push(read_message(alloc, bytes, levels)?)?;
+    for value in values {
+        read.push(read_message(alloc, value, levels)?)?;
     }
     Ok(read)
 }

@@ -1,144 +1,118 @@
-//! Rules of google/api/http.proto. `levels` is how many levels of messages may still be entered, this
-//! one included.
-ghost use Rattle.std.specs.List.{list_all};
-ghost use Rattle.std.specs.Prelude.{◌≡◌, ◌==◌, map, option_map, true, false, Some, IfOk};
-ghost use Rattle.std.specs.Str.{is_utf8};
-ghost use Rattle.descriptor_set.specs.DescriptorFields.{custom_pattern, pattern_of, pattern_by, rule_by, rule_info, http_option};
-ghost use Rattle.descriptor_set.specs.PatternParts.{last_pattern};
-ghost use Rattle.descriptor_set.specs.ReadOutcome.{Reads};
-ghost use Rattle.descriptor_set.specs.SetForm.{IsLevelOf, entered, is_level, pattern_form, rule_parts, rule_form, http_form};
+//! Rules of google/api/http.proto, by their values.
+ghost use Rattle.std.specs.Prelude.{◌≡◌, map, option_and_then, option_map, IfOk};
+ghost use Rattle.descriptor_set.specs.DescriptorFields.{custom_pattern, no_rule as says_nothing, pattern_info, rule_by, rule_info};
+ghost use Rattle.std.specs.Option.{option_copied};
+ghost use Rattle.descriptor_set.specs.FieldContents.{message_at};
 
-use crate::fault::SetFault;
-use crate::field_numbers::Described;
+use crate::field_contents::{message, messages, text, text_or_empty};
 use crate::file_set::{HttpInfo, PatternInfo};
-use crate::level::Level;
-use schema::{List, NoMemory, Text};
+use schema::{List, NoMemory, Text, Value};
 use std::alloc::Global;
-use std::str;
 
-/// CustomHttpPattern: its kind and its path.
-fn read_custom(alloc: Global, bytes: &[u8], levels: u32) -> Result<PatternInfo, SetFault>
-    ensures { Reads (entered levels (is_level Described.CustomPattern bytes.now)) (custom_pattern levels bytes.now) result }
+/// The levels of rules that are entered at most, which is the depth limit of decoding.
+const MAX_LEVELS: u32 = 100;
+
+/// CustomHttpPattern.
+fn read_custom(alloc: Global, value: &Value) -> Result<PatternInfo, NoMemory>
+    ensures { IfOk result (λ read. read ≡ custom_pattern value.now) }
 {
-    if levels == 0 {
-        return Err(SetFault::NotBuilt);
-    }
-    let level = Level::read(alloc, Described::CustomPattern, bytes)?;
     Ok(PatternInfo::Custom(
-        level.text_or_empty(alloc, 1)?,
-        level.text_or_empty(alloc, 2)?,
+        text_or_empty(alloc, value, 1)?,
+        text_or_empty(alloc, value, 2)?,
     ))
 }
 
-/// The path of a pattern.
-fn read_path(alloc: Global, bytes: &[u8]) -> Result<Text, NoMemory>
-    requires { is_utf8 bytes.now ≡ true }
-    ensures { IfOk result (λ t. t ≡ bytes.now) }
+/// The pattern of a rule: the member of its oneof that stands.
+fn read_pattern(alloc: Global, rule: &Value) -> Result<Option<PatternInfo>, NoMemory>
+    ensures { IfOk result (λ read. read ≡ pattern_info rule.now) }
 {
-    match str::from_utf8(bytes) {
-        Ok(text) => Text::copy_of(alloc, text),
-        Err(_) => unreachable!(),
+    if let Some(path) = text(alloc, rule, 2)? {
+        return Ok(Some(PatternInfo::Get(path)));
     }
-}
-
-/// The pattern of a number and its bytes.
-fn read_pattern(
-    alloc: Global,
-    number: u32,
-    bytes: &[u8],
-    levels: u32,
-) -> Result<PatternInfo, SetFault>
-    requires { (number == 8) ≡ false → is_utf8 bytes.now ≡ true }
-    ensures { Reads (pattern_form levels (Some (number, bytes.now))) (pattern_of levels number bytes.now) result }
-{
-    if number == 8 {
-        return read_custom(alloc, bytes, levels);
+    if let Some(path) = text(alloc, rule, 3)? {
+        return Ok(Some(PatternInfo::Put(path)));
     }
-    let path = read_path(alloc, bytes)?;
-    match number {
-        2 => Ok(PatternInfo::Get(path)),
-        3 => Ok(PatternInfo::Put(path)),
-        4 => Ok(PatternInfo::Post(path)),
-        5 => Ok(PatternInfo::Delete(path)),
-        _ => Ok(PatternInfo::Patch(path)),
+    if let Some(path) = text(alloc, rule, 4)? {
+        return Ok(Some(PatternInfo::Post(path)));
     }
-}
-
-/// The pattern of a rule, by its records: the last one of its oneof.
-
-fn read_last_pattern(
-    alloc: Global,
-    level: &Level<'_>,
-    levels: u32,
-) -> Result<Option<PatternInfo>, SetFault>
-    requires { IsLevelOf Described.Rule level.now }
-    ensures { Reads (pattern_form levels (last_pattern level.now)) (pattern_by levels level.now (last_pattern level.now)) result }
-{
-    match level.pattern() {
-        Some((number, bytes)) => Ok(Some(read_pattern(alloc, number, bytes, levels)?)),
+    if let Some(path) = text(alloc, rule, 5)? {
+        return Ok(Some(PatternInfo::Delete(path)));
+    }
+    if let Some(path) = text(alloc, rule, 6)? {
+        return Ok(Some(PatternInfo::Patch(path)));
+    }
+    match message(rule, 8) {
+        Some(custom) => Ok(Some(read_custom(alloc, custom)?)),
         None => Ok(None),
     }
 }
 
-/// HttpRule, by its records.
-#[cycle(rule)]
-fn read_parts(alloc: Global, level: &Level<'_>, levels: u32) -> Result<HttpInfo, SetFault>
-    requires { IsLevelOf Described.Rule level.now }
-    ensures { Reads (rule_parts (rule_form levels) levels level.now) (rule_by (rule_info levels) levels level.now) result }
+/// A rule that says nothing.
+fn no_rule(alloc: Global) -> HttpInfo
+    ensures { result ≡ says_nothing }
 {
-    let additional = level.messages(alloc, 11)?;
+    HttpInfo {
+        pattern: None,
+        body: Text::new(alloc),
+        additional_bindings: List::new(alloc),
+        response_body: Text::new(alloc),
+    }
+}
+
+/// HttpRule, with so many levels of rules in it.
+#[cycle(rule)]
+fn read_parts(alloc: Global, rule: &Value, levels: u32) -> Result<HttpInfo, NoMemory>
+    ensures { IfOk result (λ read. read ≡ rule_by (rule_info levels) rule.now) }
+{
+    let additional = messages(alloc, rule, 11)?;
     Ok(HttpInfo {
-        pattern: read_last_pattern(alloc, level, levels)?,
-        body: level.text_or_empty(alloc, 7)?,
+        pattern: read_pattern(alloc, rule)?,
+        body: text_or_empty(alloc, rule, 7)?,
         additional_bindings: read_rules(alloc, additional.as_slice(), levels)?,
-        response_body: level.text_or_empty(alloc, 12)?,
+        response_body: text_or_empty(alloc, rule, 12)?,
     })
 }
 
-/// HttpRule.
+/// HttpRule, with so many levels of rules, this one included.
 #[cycle(rule)]
-#[tactic(auto, using(crate::proofs::OpenLemmas::rule_not_level))]
-fn read_rule(alloc: Global, bytes: &[u8], levels: u32) -> Result<HttpInfo, SetFault>
-    ensures { Reads (rule_form levels bytes.now) (rule_info levels bytes.now) result }
+#[tactic(auto, using(crate::proofs::LevelLemmas::rule_none, crate::proofs::LevelLemmas::rule_opens))]
+fn read_rule(alloc: Global, rule: &Value, levels: u32) -> Result<HttpInfo, NoMemory>
+    ensures { IfOk result (λ read. read ≡ rule_info levels rule.now) }
 {
     if levels == 0 {
-        return Err(SetFault::NotBuilt);
+        return Ok(no_rule(alloc));
     }
-    let level = Level::read(alloc, Described::Rule, bytes)?;
-    read_parts(alloc, &level, levels - 1)
+    read_parts(alloc, rule, levels - 1)
 }
 
 /// The additional bindings of a rule.
 #[cycle(rule)]
-fn read_rules(alloc: Global, messages: &[&[u8]], levels: u32) -> Result<List<HttpInfo>, SetFault>
-    ensures { Reads (list_all (rule_form levels) (map (λ b. b.now) messages.now)) (map (rule_info levels) (map (λ b. b.now) messages.now)) result }
+fn read_rules(alloc: Global, rules: &[&Value], levels: u32) -> Result<List<HttpInfo>, NoMemory>
+    ensures { IfOk result (λ read. read ≡ map (rule_info levels) (map (λ v. v.now) rules.now)) }
 {
-    let mut rules = List::new(alloc);
-    for bytes in messages {
-        rules.push(read_rule(alloc, bytes, levels)?)?;
+    let mut read = List::new(alloc);
+    for rule in rules {
+        read.push(read_rule(alloc, rule, levels)?)?;
     }
-    Ok(rules)
+    Ok(read)
 }
 
-/// The annotation google.api.http of MethodOptions.
-pub(crate) fn read_http(
-    alloc: Global,
-    options: Option<&[u8]>,
-    levels: u32,
-) -> Result<Option<HttpInfo>, SetFault>
-    ensures { Reads (http_form levels (option_map (λ b. b.now) options.entry)) (http_option levels (option_map (λ b. b.now) options.entry)) result }
+/// The annotation google.api.http of a method (MethodOptions).
+fn rule_of(method: &Value) -> Option<&Value>
+    ensures { option_copied result ≡ option_and_then (λ options. message_at options 72295728) (message_at method.now 4) }
 {
-    match options {
-        Some(bytes) => {
-            if levels == 0 {
-                return Err(SetFault::NotBuilt);
-            }
-            let level = Level::read(alloc, Described::MethodOptions, bytes)?;
-            match level.message(72295728) {
-                Some(rule) => Ok(Some(read_rule(alloc, rule, levels - 1)?)),
-                None => Ok(None),
-            }
-        }
+    match message(method, 4) {
+        Some(options) => message(options, 72295728),
+        None => None,
+    }
+}
+
+/// The rule of a method, where it has one.
+pub(crate) fn read_http(alloc: Global, method: &Value) -> Result<Option<HttpInfo>, NoMemory>
+    ensures { IfOk result (λ read. read ≡ option_map (rule_info 100) (option_and_then (λ options. message_at options 72295728) (message_at method.now 4))) }
+{
+    match rule_of(method) {
+        Some(rule) => Ok(Some(read_rule(alloc, rule, MAX_LEVELS)?)),
         None => Ok(None),
     }
 }

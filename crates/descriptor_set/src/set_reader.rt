@@ -1,78 +1,83 @@
 //! Files, and the whole set (descriptor.proto).
-ghost use Rattle.std.specs.List.{list_all};
-ghost use Rattle.std.specs.Prelude.{◌≡◌, ◌<◌, ◌≤◌, ◌↔◌, length, map, true, false, IfOk, OnOk};
-ghost use Rattle.descriptor_set.specs.DescriptorFields.{file_info, file_set};
-ghost use Rattle.descriptor_set.specs.ReadOutcome.{Reads};
-ghost use Rattle.descriptor_set.specs.SetForm.{file_form, set_form};
+ghost use Rattle.std.specs.Prelude.{◌≡◌, ◌<◌, ◌↔◌, Err, length, map, IfOk};
+ghost use Rattle.descriptor_set.specs.DescriptorFields.{file_info, file_set_of};
+ghost use Rattle.descriptor_set.specs.SetReading.{IsReading, set_reading};
 
+use crate::described::{Described, type_id};
+use crate::descriptor_types::descriptor_types;
 use crate::fault::SetFault;
-use crate::field_numbers::Described;
+use crate::field_contents::{int_or_zero, messages, text_or_empty};
 use crate::file_set::{FileInfo, FileSet};
-use crate::level::Level;
 use crate::message_reader::{read_enums, read_fields, read_messages};
 use crate::service_reader::read_services;
-use schema::List;
+use schema::{List, NoMemory, Value};
 use std::alloc::Global;
+use wire_format::{DecodeFault, decode};
 
 /// The most bytes that a descriptor set may have: 16 MiB, which is past the sets of large companies'
 /// whole interfaces.
 pub const MAX_SET_BYTES: usize = 16_777_216;
 
-/// The levels of messages that are entered at most, the set itself included (the depth limit of the
-/// protobuf libraries).
+/// The levels of messages that are entered at most, which is the depth limit of decoding.
 const MAX_LEVELS: u32 = 100;
 
 /// FileDescriptorProto.
-fn read_file(alloc: Global, bytes: &[u8], levels: u32) -> Result<FileInfo, SetFault>
-    ensures { Reads (file_form levels bytes.now) (file_info levels bytes.now) result }
+fn read_file(alloc: Global, value: &Value) -> Result<FileInfo, NoMemory>
+    ensures { IfOk result (λ read. read ≡ file_info value.now) }
 {
-    if levels == 0 {
-        return Err(SetFault::NotBuilt);
-    }
-    let level = Level::read(alloc, Described::File, bytes)?;
-    let messages = level.messages(alloc, 4)?;
-    let enums = level.messages(alloc, 5)?;
-    let services = level.messages(alloc, 6)?;
-    let extensions = level.messages(alloc, 7)?;
+    let declared = messages(alloc, value, 4)?;
+    let enums = messages(alloc, value, 5)?;
+    let services = messages(alloc, value, 6)?;
+    let extensions = messages(alloc, value, 7)?;
     Ok(FileInfo {
-        name: level.text_or_empty(alloc, 1)?,
-        package: level.text_or_empty(alloc, 2)?,
-        message_type: read_messages(alloc, messages.as_slice(), levels - 1)?,
-        enum_type: read_enums(alloc, enums.as_slice(), levels - 1)?,
-        service: read_services(alloc, services.as_slice(), levels - 1)?,
-        extension: read_fields(alloc, extensions.as_slice(), levels - 1)?,
-        syntax: level.text_or_empty(alloc, 12)?,
-        edition: level.int_or_zero(14),
+        name: text_or_empty(alloc, value, 1)?,
+        package: text_or_empty(alloc, value, 2)?,
+        message_type: read_messages(alloc, declared.as_slice(), MAX_LEVELS)?,
+        enum_type: read_enums(alloc, enums.as_slice())?,
+        service: read_services(alloc, services.as_slice())?,
+        extension: read_fields(alloc, extensions.as_slice())?,
+        syntax: text_or_empty(alloc, value, 12)?,
+        edition: int_or_zero(value, 14),
     })
 }
 
 /// The files of a set.
-fn read_files(alloc: Global, messages: &[&[u8]], levels: u32) -> Result<List<FileInfo>, SetFault>
-    ensures { Reads (list_all (file_form levels) (map (λ b. b.now) messages.now)) (map (file_info levels) (map (λ b. b.now) messages.now)) result }
+fn read_files(alloc: Global, values: &[&Value]) -> Result<List<FileInfo>, NoMemory>
+    ensures { IfOk result (λ read. read ≡ map file_info (map (λ v. v.now) values.now)) }
 {
-    let mut files = List::new(alloc);
-    for bytes in messages {
-        files.push(read_file(alloc, bytes, levels)?)?;
+    let mut read = List::new(alloc);
+    for value in values {
+        read.push(read_file(alloc, value)?)?;
     }
-    Ok(files)
+    Ok(read)
 }
 
-/// Reads the bytes of a FileDescriptorSet. So far a set is of the form that is read where it has at
-/// most 16,777,216 bytes, its messages are whole records of VARINT and LEN with tags in their shortest
-/// form, no listed singular field stands twice, listed fields have their wire types, strings are
-/// UTF-8, messages nest in at most 100 levels, and no message has options.
+/// FileDescriptorSet.
+fn read_file_set(alloc: Global, value: &Value) -> Result<FileSet, NoMemory>
+    ensures { IfOk result (λ read. read ≡ file_set_of value.now) }
+{
+    let files = messages(alloc, value, 1)?;
+    Ok(FileSet {
+        files: read_files(alloc, files.as_slice())?,
+    })
+}
+
+/// Reads the bytes of a FileDescriptorSet: what the listed fields hold, all others being skipped. Of
+/// bytes that are too long nothing is read; else the first fault counts, in every payload of a listed
+/// message field, also of one that a later record replaces.
+#[tactic(auto, unfolding(crate::specs::SetReading::set_reading))]
 pub fn read_set(alloc: Global, bytes: &[u8]) -> Result<FileSet, SetFault>
-    ensures ok { IfOk result (λ set. set ≡ file_set 100 bytes.now) }
-    ensures read { OnOk result ((length bytes.now ≤ MAX_SET_BYTES) × (set_form bytes.now ≡ true)) }
+    ensures read { IsReading result (set_reading bytes.now) }
     ensures long { (result ≡ Err SetFault.TooLong) ↔ (MAX_SET_BYTES < length bytes.now) }
-    ensures not_built { result ≡ Err SetFault.NotBuilt → (length bytes.now ≤ MAX_SET_BYTES) × (set_form bytes.now ≡ false) }
 {
     if bytes.len() > MAX_SET_BYTES {
         return Err(SetFault::TooLong);
     }
-    let level = Level::read(alloc, Described::Set, bytes)?;
-    let files = level.messages(alloc, 1)?;
-    Ok(FileSet {
-        files: read_files(alloc, files.as_slice(), MAX_LEVELS - 1)?,
-    })
+    let types = descriptor_types(alloc)?;
+    match decode(alloc, &types, type_id(Described::Set), bytes) {
+        Ok(value) => Ok(read_file_set(alloc, &value)?),
+        Err(DecodeFault::Wire(fault)) => Err(SetFault::Wire(fault)),
+        Err(DecodeFault::NotUtf8(place)) => Err(SetFault::NotUtf8(place)),
+        Err(DecodeFault::NoMemory) => Err(SetFault::NoMemory),
+    }
 }

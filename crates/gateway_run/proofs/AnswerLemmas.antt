@@ -1,8 +1,11 @@
 -- One answer to a request.
-use Rattle.std.proofs.Common.{◌≡◌, ℕ, List, [], ◌∷◌, map, refl, sym, ap, ◌∙◌, subst, arith, length}
+use Rattle.std.proofs.Common.{◌≡◌, ℕ, List, [], ◌∷◌, map, Result, Ok, Err, refl, sym, ap, ◌∙◌, subst, arith, length}
 use Rattle.std.specs.Str.{IsUtf8}
-use Rattle.descriptor_set.specs.DescriptorFields.{file_set}
+use Rattle.descriptor_set.specs.SetReading.{set_reading}
+use Rattle.descriptor_set.specs.declared.fault.SetFault.{SetFault}
+use Rattle.descriptor_set.specs.declared.fault.SetFault.TheVariants as unread
 use Rattle.descriptor_set.specs.declared.file_set.FileInfo.{FileInfo}
+use Rattle.descriptor_set.specs.declared.file_set.FileSet.{FileSet}
 use Rattle.descriptor_set.specs.declared.file_set.RpcInfo.{RpcInfo}
 use Rattle.descriptor_set.specs.declared.file_set.ServiceInfo.{ServiceInfo}
 use Rattle.gateway_run.proofs.LinkLemmas.{some_same, one_name}
@@ -10,8 +13,10 @@ use Rattle.gateway_run.specs.Commands.{BindWords}
 use Rattle.gateway_run.specs.LinkedSet.{field_named, input, linked_field, message_fields, message_in, method_of, only}
 use Rattle.gateway_run.specs.Outcomes.{IsOutput, IsRefusedBy}
 use Rattle.gateway_run.specs.RequestMeaning.{Captures, IsBound, IsMessageOf, IsRefusal, between, output}
-use Rattle.gateway_run.specs.ServedSet.{Declares, IsServedFile, IsServedMethod, IsTemplateOf, get_of, types_of}
+use Rattle.gateway_run.specs.ServedSet.{Declares, IsServed, IsServedFile, IsServedMethod, IsTemplateOf, IsUnserved, get_of, types_of}
 use Rattle.gateway_run.specs.declared.api.Api.{Api}
+use Rattle.gateway_run.specs.declared.descriptor_fault.DescriptorFault.{DescriptorFault}
+use Rattle.gateway_run.specs.declared.descriptor_fault.DescriptorFault.TheVariants as faults
 use Rattle.gateway_run.specs.declared.refusal.Refusal.{Refusal}
 use Rattle.gateway_run.specs.declared.refusal.Refusal.TheVariants as refusals
 use Rattle.http_rules.proofs.AnswerLemmas.{one_meaning}
@@ -53,10 +58,51 @@ one_of_file file a b s r =
     let same : (s.service, s.method) ≡ (r.service, r.method) = some_same (method_of file) (s.service, s.method) (r.service, r.method) s.method_is r.method_is in
     one_of_method file r.service r.method a b (subst (λ (z : ServiceInfo × RpcInfo). IsServedMethod file z.0 z.1 a) same s.served) r.served
 
+-- the value of an answer
+abbrev value_or : {A E : Type 0} → A → Result A E → A
+value_or d (Ok x) = x
+value_or d (Err e) = d
+
+-- one value of two equal answers
+ok_same : {A E : Type 0} (r : Result A E) (x y : A) → r ≡ Ok x → r ≡ Ok y → x ≡ y
+ok_same {A = A} {E = E} r x y h k = let e : ◌≡◌ {A = Result A E} (Ok x) (Ok y) = sym h ∙ k in ap (value_or x) e
+
+one_of_set : (set : FileSet) (a b : Api) → IsServed set a → IsServed set b → a ≡ b
+one_of_set set a b d e =
+    let same = some_same (only set.files) d.file e.file d.file_is e.file_is in
+    one_of_file e.file a b (subst (λ z. IsServedFile z a) same d.served) e.served
+
 pub one_api : (bytes : List ℕ) (a b : Api) → Declares bytes a → Declares bytes b → a ≡ b
 one_api bytes a b d e =
-    let same = some_same (only (file_set 100 bytes).files) d.served.file e.served.file d.served.file_is e.served.file_is in
-    one_of_file e.served.file a b (subst (λ z. IsServedFile z a) same d.served.served) e.served.served
+    let same : d.set ≡ e.set = ok_same (set_reading bytes) d.set e.set d.read e.read in
+    one_of_set e.set a b (subst (λ z. IsServed z a) same d.served) e.served
+
+-- ---- a set has one fault, or serves
+
+pub unserved : (bytes : List ℕ) (f : DescriptorFault) (api : Api) → IsUnserved bytes f → Declares bytes api → ⊥
+unserved bytes (faults.Wire w) api h d = absurd (cc (h, d.read))
+unserved bytes (faults.NotUtf8 place) api h d = absurd (cc (h, d.read))
+unserved bytes faults.TooLong api h d = absurd (cc (h, d.read))
+unserved bytes faults.NotBuilt api h d =
+    let same : d.set ≡ h.set = ok_same (set_reading bytes) d.set h.set d.read h.read in
+    h.nothing api (subst (λ z. IsServed z api) same d.served)
+
+-- the fault of an answer that is none
+abbrev fault_of : Result FileSet SetFault → DescriptorFault
+fault_of (Ok set) = faults.NotBuilt
+fault_of (Err (unread.Wire w)) = faults.Wire w
+fault_of (Err (unread.NotUtf8 place)) = faults.NotUtf8 place
+fault_of (Err unread.TooLong) = faults.TooLong
+fault_of (Err unread.NoMemory) = faults.NotBuilt
+
+fault_is : (bytes : List ℕ) (f : DescriptorFault) → IsUnserved bytes f → fault_of (set_reading bytes) ≡ f
+fault_is bytes (faults.Wire w) h = ap fault_of h
+fault_is bytes (faults.NotUtf8 place) h = ap fault_of h
+fault_is bytes faults.TooLong h = ap fault_of h
+fault_is bytes faults.NotBuilt h = ap fault_of h.read
+
+pub one_fault : (bytes : List ℕ) (f g : DescriptorFault) → IsUnserved bytes f → IsUnserved bytes g → f ≡ g
+one_fault bytes f g h k = sym (fault_is bytes f h) ∙ fault_is bytes g k
 
 -- ---- one text is captured, and is one message
 

@@ -1,22 +1,35 @@
 -- What a command over a file's front says of the file.
-use Rattle.std.proofs.Common.{◌≡◌, ◌≤◌, ◌<◌, ℕ, List, [], length, take, Option, Some, None, IfSome, Result, Ok, Err, OnOk, OnErr, refl, sym, ap, ◌∙◌, subst, arith, Vec, Bool, true, false, nat_le}
+use Rattle.std.proofs.Common.{◌≡◌, ◌≤◌, ◌<◌, ℕ, List, [], length, take, Option, Some, None, IfSome, Result, Ok, Err, OnOk, OnErr, refl, sym, ap, ◌∙◌, subst, arith, Vec, Bool, true, false, nat_le, nat_lt}
 use Rattle.std.proofs.lemmas.Bool.Decides.{nat_tests}
 use Rattle.std.proofs.lemmas.List.{append-nil, take_all, length-take-le}
 use Rattle.gate_world.specs.Sinks.{Gains, GainsPrefix}
+use Rattle.descriptor_set.specs.SetReading.{set_reading}
+use Rattle.descriptor_set.specs.declared.fault.SetFault.TheVariants as unread
 use Rattle.gateway_run.specs.Commands.{BindWords}
+use Rattle.gateway_run.specs.DescriptorLines.{descriptor_line}
 use Rattle.gateway_run.specs.Outcomes.{AnswersTold, Gives, IsLine, IsOutput, IsRefusedBy, Ran, refusal_line, stop_line, stop_status}
 use Rattle.gateway_run.specs.RequestMeaning.{IsPrinted, IsRefusal}
-use Rattle.gateway_run.specs.ServedSet.{Declares, ServesNothing}
+use Rattle.gateway_run.specs.ServedSet.{Declares, IsUnserved}
 use Rattle.gateway_run.specs.declared.api.Api.{Api}
+use Rattle.gateway_run.specs.declared.descriptor_fault.DescriptorFault.{DescriptorFault}
+use Rattle.gateway_run.specs.declared.descriptor_fault.DescriptorFault.TheVariants as faults
 use Rattle.gateway_run.specs.declared.refusal.Refusal.{Refusal}
 use Rattle.gateway_run.specs.declared.status.Stop.{Stop}
 use Rattle.gateway_run.specs.declared.status.Stop.TheVariants as stop
 use Rattle.gateway_run.specs.declared.status.Status.TheVariants as status
 
--- ---- a file longer than a set may be has a front that is
+-- ---- the front of a file that is longer than a set may be is too
 
-front_short : (file bytes : List ℕ) → bytes ≡ take 16777217 file → length bytes ≤ 16777216 → bytes ≡ file
-front_short file bytes e s = pick (nat_le (length file) 16777217) (le_true (length file) 16777217) (le_false (length file) 16777217)
+too_long : (bytes : List ℕ) → nat_lt 16777216 (length bytes) ≡ true → set_reading bytes ≡ Err unread.TooLong
+unfolding set_reading
+too_long bytes h = rw h refl
+
+longer : (n : ℕ) → 16777216 < n → nat_lt 16777216 n ≡ true
+longer n h = grind (arith, nat_tests, h)
+
+-- a file and its front are read alike
+reading_front : (file bytes : List ℕ) → bytes ≡ take 16777217 file → set_reading bytes ≡ set_reading file
+reading_front file bytes e = pick (nat_le (length file) 16777217) (le_true (length file) 16777217) (le_false (length file) 16777217)
   where
     le_true : (m n : ℕ) → nat_le m n ≡ true → m ≤ n
     le_true m n h = grind (arith, nat_tests, h)
@@ -24,24 +37,27 @@ front_short file bytes e s = pick (nat_le (length file) 16777217) (le_true (leng
     le_false : (m n : ℕ) → nat_le m n ≡ false → n < m
     le_false m n h = grind (arith, nat_tests, h)
 
-    pick : (b : Bool) → (b ≡ true → length file ≤ 16777217) → (b ≡ false → 16777217 < length file) → bytes ≡ file
-    pick true yes' no' = e ∙ take_all 16777217 file (yes' refl)
+    pick : (b : Bool) → (b ≡ true → length file ≤ 16777217) → (b ≡ false → 16777217 < length file) → set_reading bytes ≡ set_reading file
+    pick true yes' no' = ap set_reading (e ∙ take_all 16777217 file (yes' refl))
     pick false yes' no' =
         let long : 16777217 < length file = no' refl in
         let size : length bytes ≡ 16777217 = ap length e ∙ length-take-le 16777217 file (omega (arith, long)) in
-        absurd (omega (arith, size, s))
+        too_long bytes (longer (length bytes) (omega (arith, size))) ∙ sym (too_long file (longer (length file) (omega (arith, long))))
 
 file_declares : (file bytes : List ℕ) (api : Api) → bytes ≡ take 16777217 file → Declares bytes api → Declares file api
-file_declares file bytes api e d = subst (λ z. Declares z api) (front_short file bytes e d.short) d
+file_declares file bytes api e d = record { set = d.set; read = sym (reading_front file bytes e) ∙ d.read; served = d.served }
 
-front_declares : (file bytes : List ℕ) (api : Api) → bytes ≡ take 16777217 file → Declares file api → Declares bytes api
-front_declares file bytes api e d = subst (λ z. Declares z api) (sym (e ∙ take_all 16777217 file (let short = d.short in omega (arith, short)))) d
+file_unserved : (file bytes : List ℕ) (f : DescriptorFault) → bytes ≡ take 16777217 file → IsUnserved bytes f → IsUnserved file f
+file_unserved file bytes (faults.Wire w) e h = sym (reading_front file bytes e) ∙ h
+file_unserved file bytes (faults.NotUtf8 place) e h = sym (reading_front file bytes e) ∙ h
+file_unserved file bytes faults.TooLong e h = sym (reading_front file bytes e) ∙ h
+file_unserved file bytes faults.NotBuilt e h = record { set = h.set; read = sym (reading_front file bytes e) ∙ h.read; nothing = h.nothing }
 
 -- ---- each way to end
 
-nothing_told : (told : Option (List ℕ)) (bytes : List ℕ) → IfSome told (λ file. bytes ≡ take 16777217 file) → ServesNothing bytes → IfSome told ServesNothing
-nothing_told None bytes f n = tt
-nothing_told (Some file) bytes f n = λ api d. n api (front_declares file bytes api f d)
+unserved_told : (told : Option (List ℕ)) (bytes : List ℕ) (f : DescriptorFault) → IfSome told (λ file. bytes ≡ take 16777217 file) → IsUnserved bytes f → IfSome told (λ file. IsUnserved file f)
+unserved_told None bytes f e h = tt
+unserved_told (Some file) bytes f e h = file_unserved file bytes f e h
 
 refused_told : (told : Option (List ℕ)) (bytes : List ℕ) (c : BindWords) (r : Refusal) (api : Api) → IfSome told (λ file. bytes ≡ take 16777217 file) → Declares bytes api → IsRefusal api c.method c.target r → IfSome told (λ file. IsRefusedBy file c r)
 refused_told None bytes c r api f d i = tt
@@ -53,9 +69,9 @@ output_told (Some file) bytes c out api f d p = record { api = api; declares = f
 
 -- a set that is not linked
 pub link_stops : {A B : Type 0} (G : A → Type 0) (H : B → Type 0) (R : Refusal → Type 0) (F : Type 0) (told : Option (List ℕ)) (bytes : List ℕ) → IfSome told (λ file. bytes ≡ take 16777217 file) → (e : Stop)
-    → Gives {A = A} G (ServesNothing bytes) (λ _. ⊥) ⊥ (Err e) → Gives {A = B} H (IfSome told ServesNothing) R F (Err e)
+    → Gives {A = A} G (IsUnserved bytes) (λ _. ⊥) ⊥ (Err e) → Gives {A = B} H (λ f. IfSome told (λ file. IsUnserved file f)) R F (Err e)
 link_stops G H R F told bytes f stop.Usage g = absurd g
-link_stops G H R F told bytes f stop.Descriptors g = nothing_told told bytes f g
+link_stops G H R F told bytes f (stop.Descriptors fault) g = unserved_told told bytes fault f g
 link_stops G H R F told bytes f stop.ReadFault g = absurd g
 link_stops G H R F told bytes f stop.WriteFault g = absurd g
 link_stops G H R F told bytes f stop.NoMemory g = tt
@@ -63,11 +79,11 @@ link_stops G H R F told bytes f (stop.Refused r) g = absurd g
 
 -- what a request over what a set serves gives, said of the file
 pub bound_gives : {Z : Type 0} (F : Type 0) (told : Option (List ℕ)) (bytes : List ℕ) (c : BindWords) (api : Api) → IfSome told (λ file. bytes ≡ take 16777217 file) → Declares bytes api → (r : Result (Vec ℕ Z) Stop)
-    → Gives (λ (out : Vec ℕ Z). IsPrinted api c.method c.target out.items) ⊥ (IsRefusal api c.method c.target) ⊥ r
-    → Gives (λ (out : Vec ℕ Z). IfSome told (λ file. IsOutput file c out.items)) (IfSome told ServesNothing) (λ q. IfSome told (λ file. IsRefusedBy file c q)) F r
+    → Gives (λ (out : Vec ℕ Z). IsPrinted api c.method c.target out.items) (λ _. ⊥) (IsRefusal api c.method c.target) ⊥ r
+    → Gives (λ (out : Vec ℕ Z). IfSome told (λ file. IsOutput file c out.items)) (λ q. IfSome told (λ file. IsUnserved file q)) (λ q. IfSome told (λ file. IsRefusedBy file c q)) F r
 bound_gives F told bytes c api f d (Ok out) g = output_told told bytes c out.items api f d g
 bound_gives F told bytes c api f d (Err stop.Usage) g = absurd g
-bound_gives F told bytes c api f d (Err stop.Descriptors) g = absurd g
+bound_gives F told bytes c api f d (Err (stop.Descriptors fault)) g = absurd g
 bound_gives F told bytes c api f d (Err stop.ReadFault) g = absurd g
 bound_gives F told bytes c api f d (Err stop.WriteFault) g = absurd g
 bound_gives F told bytes c api f d (Err stop.NoMemory) g = tt
@@ -79,15 +95,19 @@ any_told : (told : Option (List ℕ)) → IfSome told (λ file. Unit {0})
 any_told None = tt
 any_told (Some file) = tt
 
+fault_told : (told : Option (List ℕ)) (f : DescriptorFault) → IfSome told (λ file. IsUnserved file f) → IfSome told (λ file. (g : DescriptorFault) × IsUnserved file g × (descriptor_line f ≡ descriptor_line g))
+fault_told None f h = tt
+fault_told (Some file) f h = (f, h, refl)
+
 refusal_told : (told : Option (List ℕ)) (c : BindWords) (r : Refusal) → IfSome told (λ file. IsRefusedBy file c r) → IfSome told (λ file. (q : Refusal) × IsRefusedBy file c q × (refusal_line r ≡ refusal_line q))
 refusal_told None c r h = tt
 refusal_told (Some file) c r h = (r, h, refl)
 
 -- a command that stopped before it wrote
 pub stopped : {A : Type 0} (G : A → Type 0) (F : Type 0) (c : BindWords) (contents : List ℕ → Option (List ℕ)) (old new : Option (List ℕ)) (e : Stop)
-    → Gives {A = A} G (IfSome (contents c.set) ServesNothing) (λ r. IfSome (contents c.set) (λ file. IsRefusedBy file c r)) F (Err e) → AnswersTold (Some c) contents (stop_status e) (stop_line e) old new
+    → Gives {A = A} G (λ f. IfSome (contents c.set) (λ file. IsUnserved file f)) (λ r. IfSome (contents c.set) (λ file. IsRefusedBy file c r)) F (Err e) → AnswersTold (Some c) contents (stop_status e) (stop_line e) old new
 stopped G F c contents old new stop.Usage g = absurd g
-stopped G F c contents old new stop.Descriptors g = g
+stopped G F c contents old new (stop.Descriptors f) g = fault_told (contents c.set) f g
 stopped G F c contents old new stop.ReadFault g = any_told (contents c.set)
 stopped G F c contents old new stop.WriteFault g = absurd g
 stopped G F c contents old new stop.NoMemory g = any_told (contents c.set)
@@ -113,7 +133,7 @@ prefix_all old new bytes g = (length bytes, omega arith, subst (Gains old new) (
 
 stop_is : (e : Stop) → IsLine (stop_status e) (stop_line e)
 stop_is stop.Usage = refl
-stop_is stop.Descriptors = refl
+stop_is (stop.Descriptors f) = (f, refl)
 stop_is stop.ReadFault = refl
 stop_is stop.WriteFault = refl
 stop_is stop.NoMemory = refl

@@ -3,6 +3,7 @@ pub mod BindLemmas
 pub mod CamelLemmas
 pub mod DistinctLemmas
 pub mod FrontLemmas
+pub mod LineLemmas
 pub mod LinkLemmas
 pub mod MessageLemmas
 pub mod NameLemmas

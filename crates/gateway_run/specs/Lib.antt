@@ -1,5 +1,5 @@
 pub use Rattle.descriptor_set.specs.DescriptorFields
-pub use Rattle.descriptor_set.specs.SetForm
+pub use Rattle.descriptor_set.specs.SetReading
 pub use Rattle.gate_world.specs.Causes
 pub use Rattle.gate_world.specs.Sinks
 pub use Rattle.http_rules.specs.Template
@@ -14,4 +14,5 @@ pub mod LinkedApi
 pub mod BoundMessage
 pub mod PathPieces
 pub mod RequestMeaning
+pub mod DescriptorLines
 pub mod Outcomes

@@ -88,9 +88,10 @@ pub record AreFields (declared : List FieldInfo) : Type 0 where
   pub strings : AllByRecursion (λ f. is_string_field f ≡ true) declared
   pub apart : AreApart (map linked_field declared)
 
--- a message declares nothing but fields
+-- a message declares nothing but fields, and is no map's entry and no message set
 abbrev pub is_plain_message : MessageInfo → Bool
-is_plain_message m = is_empty (out-MessageInfo m).nested_type && (is_empty (out-MessageInfo m).enum_type && is_empty (out-MessageInfo m).extension)
+is_plain_message m = is_empty (out-MessageInfo m).nested_type && (is_empty (out-MessageInfo m).enum_type && (is_empty (out-MessageInfo m).extension
+    && (not (out-MessageInfo m).map_entry && not (out-MessageInfo m).message_set_wire_format)))
 
 -- the name of a message, and its fields
 abbrev pub message_name : MessageInfo → List ℕ

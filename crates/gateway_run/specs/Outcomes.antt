@@ -3,8 +3,10 @@ use Rattle.std.specs.Prelude.{◌≡◌, ℕ, List, [], codes, Option, Some, Non
 use Rattle.gate_world.specs.Sinks.{Gains, GainsPrefix}
 use Rattle.gateway_run.specs.Commands.{BindWords}
 use Rattle.gateway_run.specs.RequestMeaning.{IsPrinted, IsRefusal}
-use Rattle.gateway_run.specs.ServedSet.{Declares, ServesNothing}
+use Rattle.gateway_run.specs.DescriptorLines.{descriptor_line}
+use Rattle.gateway_run.specs.ServedSet.{Declares, IsUnserved}
 use Rattle.gateway_run.specs.declared.api.Api.{Api}
+use Rattle.gateway_run.specs.declared.descriptor_fault.DescriptorFault.{DescriptorFault}
 use Rattle.gateway_run.specs.declared.refusal.Refusal.{Refusal}
 use Rattle.gateway_run.specs.declared.refusal.Refusal.TheVariants as refusals
 use Rattle.gateway_run.specs.declared.status.Status.{Status}
@@ -31,11 +33,11 @@ refusal_line refusals.PathUnknown = codes "refused 404 path unknown\n"
 refusal_line refusals.PathNotUtf8 = codes "refused 400 path variable 1: not UTF-8\n"
 refusal_line refusals.MessageLong = codes "refused 429 message too long\n"
 
--- the line of a status: that of a refusal where a request is refused, none with Done
+-- the line of a status: that of a fault of the set or of a refusal where there is one, none with Done
 abbrev pub IsLine : Status → List ℕ → Type 0
 IsLine status.Done line = line ≡ []
 IsLine status.Usage line = line ≡ codes "usage\n"
-IsLine status.Descriptors line = line ≡ codes "descriptors: not built\n"
+IsLine status.Descriptors line = (f : DescriptorFault) × (line ≡ descriptor_line f)
 IsLine status.ReadFault line = line ≡ codes "read fault\n"
 IsLine status.WriteFault line = line ≡ codes "write fault\n"
 IsLine status.NoMemory line = line ≡ codes "out of memory\n"
@@ -54,7 +56,7 @@ number_of status.Refused = 9
 -- the status of a command that stopped
 abbrev pub stop_status : Stop → Status
 stop_status stop.Usage = status.Usage
-stop_status stop.Descriptors = status.Descriptors
+stop_status (stop.Descriptors f) = status.Descriptors
 stop_status stop.ReadFault = status.ReadFault
 stop_status stop.WriteFault = status.WriteFault
 stop_status stop.NoMemory = status.NoMemory
@@ -63,19 +65,19 @@ stop_status (stop.Refused r) = status.Refused
 -- its line
 abbrev pub stop_line : Stop → List ℕ
 stop_line stop.Usage = codes "usage\n"
-stop_line stop.Descriptors = codes "descriptors: not built\n"
+stop_line (stop.Descriptors f) = descriptor_line f
 stop_line stop.ReadFault = codes "read fault\n"
 stop_line stop.WriteFault = codes "write fault\n"
 stop_line stop.NoMemory = codes "out of memory\n"
 stop_line (stop.Refused r) = refusal_line r
 
 -- what a status says of the set's file and the request: with Done the output was written whole, with
--- WriteFault a part of it; Descriptors where nothing is served; Refused where the request is, and the line
--- is that of the refusal
+-- WriteFault a part of it; Descriptors where nothing is served, and the line is that of the fault; Refused where
+-- the request is, and the line is that of the refusal
 abbrev pub Answers : List ℕ → BindWords → Status → List ℕ → Option (List ℕ) → Option (List ℕ) → Type 0
 Answers file c status.Done line old new = (bytes : List ℕ) × IsOutput file c bytes × Gains old new bytes
 Answers file c status.Usage line old new = ⊥
-Answers file c status.Descriptors line old new = ServesNothing file
+Answers file c status.Descriptors line old new = (f : DescriptorFault) × IsUnserved file f × (line ≡ descriptor_line f)
 Answers file c status.ReadFault line old new = Unit {0}
 Answers file c status.WriteFault line old new = (bytes : List ℕ) × IsOutput file c bytes × GainsPrefix old new bytes
 Answers file c status.NoMemory line old new = Unit {0}
@@ -102,14 +104,14 @@ Writes status.WriteFault = Unit {0}
 Writes _ = ⊥
 
 -- what a step of a command gives: a good value, or why the command stops there
-abbrev pub Gives : {A : Type 0} → (A → Type 0) → Type 0 → (Refusal → Type 0) → Type 0 → Result A Stop → Type 0
-Gives Good Nothing Refused Failed (Ok x) = Good x
-Gives Good Nothing Refused Failed (Err stop.Usage) = ⊥
-Gives Good Nothing Refused Failed (Err stop.Descriptors) = Nothing
-Gives Good Nothing Refused Failed (Err stop.ReadFault) = Failed
-Gives Good Nothing Refused Failed (Err stop.WriteFault) = ⊥
-Gives Good Nothing Refused Failed (Err stop.NoMemory) = Unit {0}
-Gives Good Nothing Refused Failed (Err (stop.Refused r)) = Refused r
+abbrev pub Gives : {A : Type 0} → (A → Type 0) → (DescriptorFault → Type 0) → (Refusal → Type 0) → Type 0 → Result A Stop → Type 0
+Gives Good Unserved Refused Failed (Ok x) = Good x
+Gives Good Unserved Refused Failed (Err stop.Usage) = ⊥
+Gives Good Unserved Refused Failed (Err (stop.Descriptors f)) = Unserved f
+Gives Good Unserved Refused Failed (Err stop.ReadFault) = Failed
+Gives Good Unserved Refused Failed (Err stop.WriteFault) = ⊥
+Gives Good Unserved Refused Failed (Err stop.NoMemory) = Unit {0}
+Gives Good Unserved Refused Failed (Err (stop.Refused r)) = Refused r
 
 -- the status and the line of a command that ran
 abbrev pub status_of : {A : Type 0} → Result A Stop → Status

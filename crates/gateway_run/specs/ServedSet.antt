@@ -1,8 +1,8 @@
 -- What a descriptor set with one GET rule serves (google/api/http.proto).
-use Rattle.std.specs.Prelude.{◌≡◌, ◌≤◌, ◌&&◌, ℕ, Bool, true, false, List, [], ◌∷◌, length, map, Option, Some, None, nat_eq, if◌then◌else◌}
+use Rattle.std.specs.Prelude.{◌≡◌, ◌&&◌, ℕ, Bool, true, false, List, [], ◌∷◌, map, Option, Some, None, Ok, Err, nat_eq, if◌then◌else◌}
 use Rattle.std.specs.List.{AllByRecursion, list_any}
-use Rattle.descriptor_set.specs.DescriptorFields.{file_set}
-use Rattle.descriptor_set.specs.SetForm.{set_form}
+use Rattle.descriptor_set.specs.SetReading.{set_reading}
+use Rattle.descriptor_set.specs.declared.fault.SetFault.TheVariants as unread
 use Rattle.descriptor_set.specs.declared.file_set.FileInfo.{FileInfo}
 use Rattle.descriptor_set.specs.declared.file_set.FileSet.{FileSet}
 use Rattle.descriptor_set.specs.declared.file_set.HttpInfo.{HttpInfo, out-HttpInfo}
@@ -13,6 +13,8 @@ use Rattle.descriptor_set.specs.declared.file_set.RpcInfo.{RpcInfo}
 use Rattle.descriptor_set.specs.declared.file_set.ServiceInfo.{ServiceInfo}
 use Rattle.gateway_run.specs.LinkedSet.{only, is_empty, is_plain_file, AreMessages, message_fields, message_in, message_name, method_of, grpc_path, linked_field, field_named}
 use Rattle.gateway_run.specs.declared.api.Api.{Api}
+use Rattle.gateway_run.specs.declared.descriptor_fault.DescriptorFault.{DescriptorFault}
+use Rattle.gateway_run.specs.declared.descriptor_fault.DescriptorFault.TheVariants.{Wire, NotUtf8, TooLong, NotBuilt}
 use Rattle.http_rules.specs.PercentDecoding.{variable_segments}
 use Rattle.http_rules.specs.Template.{IsTemplateText, IsWithinLimits}
 use Rattle.http_rules.specs.declared.template.Segment.{Segment}
@@ -109,12 +111,22 @@ pub record IsServed (set : FileSet) (api : Api) : Type 0 where
   pub file_is : only set.files ≡ Some file
   pub served : IsServedFile file api
 
--- what a set of these bytes serves: they are at most 16,777,216 and of the form that is read
+-- what a set of these bytes serves: what the set that they are read as does
 pub record Declares (bytes : List ℕ) (api : Api) : Type 0 where
-  pub short : length bytes ≤ 16777216
-  pub form : set_form bytes ≡ true
-  pub served : IsServed (file_set 100 bytes) api
+  pub set : FileSet
+  pub read : set_reading bytes ≡ Ok set
+  pub served : IsServed set api
 
--- nothing is served
-abbrev pub ServesNothing : List ℕ → Type 0
-ServesNothing bytes = (api : Api) → Declares bytes api → ⊥
+-- bytes are read as a set that serves nothing
+pub record IsUnlinked (bytes : List ℕ) : Type 0 where
+  pub set : FileSet
+  pub read : set_reading bytes ≡ Ok set
+  pub nothing : (api : Api) → IsServed set api → ⊥
+
+-- why bytes serve nothing: they are not read as a set, or the set that they are read as is of no form that is
+-- served
+abbrev pub IsUnserved : List ℕ → DescriptorFault → Type 0
+IsUnserved bytes (Wire w) = set_reading bytes ≡ Err (unread.Wire w)
+IsUnserved bytes (NotUtf8 place) = set_reading bytes ≡ Err (unread.NotUtf8 place)
+IsUnserved bytes TooLong = set_reading bytes ≡ Err unread.TooLong
+IsUnserved bytes NotBuilt = IsUnlinked bytes

@@ -5,12 +5,13 @@ ghost use Rattle.gateway_run.specs.CommandViews.{bind_view};
 ghost use Rattle.gateway_run.specs.LinkedApi.{IsLinked};
 ghost use Rattle.gateway_run.specs.Outcomes.{Gives, IsOutput, IsRefusedBy};
 ghost use Rattle.gateway_run.specs.RequestMeaning.{IsPrinted, IsRefusal, output};
-ghost use Rattle.gateway_run.specs.ServedSet.{Declares, ServesNothing};
+ghost use Rattle.gateway_run.specs.ServedSet.{Declares, IsUnserved};
 ghost use Rattle.hex.specs.Hex.{encode_lower};
 
 use crate::api::Api;
 use crate::binding::bind;
 use crate::command::Bind;
+use crate::descriptor_fault::DescriptorFault;
 use crate::linking::link;
 use crate::set_loading::read_whole;
 use crate::status::Stop;
@@ -22,15 +23,16 @@ use std::alloc::Global;
 
 /// What the set of these bytes serves.
 fn linked(alloc: Global, bytes: &[u8]) -> Result<Api, Stop>
-    ensures gives { Gives (λ api. Declares bytes.now api × IsLinked api) (ServesNothing bytes.now) (λ _. ⊥) ⊥ result }
+    ensures gives { Gives (λ api. Declares bytes.now api × IsLinked api) (IsUnserved bytes.now) (λ _. ⊥) ⊥ result }
 {
     match read_set(alloc, bytes) {
         Ok(set) => match link(alloc, &set)? {
             Some(api) => Ok(api),
-            None => Err(Stop::Descriptors),
+            None => Err(Stop::Descriptors(DescriptorFault::NotBuilt)),
         },
-        Err(SetFault::TooLong) => Err(Stop::Descriptors),
-        Err(SetFault::NotBuilt) => Err(Stop::Descriptors),
+        Err(SetFault::Wire(fault)) => Err(Stop::Descriptors(DescriptorFault::Wire(fault))),
+        Err(SetFault::NotUtf8(place)) => Err(Stop::Descriptors(DescriptorFault::NotUtf8(place))),
+        Err(SetFault::TooLong) => Err(Stop::Descriptors(DescriptorFault::TooLong)),
         Err(SetFault::NoMemory) => Err(Stop::NoMemory),
     }
 }
@@ -63,7 +65,7 @@ fn lines(alloc: Global, path: &[u8], message: &[u8]) -> Result<Vec<u8>, NoMemory
 /// What the command writes, for what a set serves.
 fn bound_output(alloc: Global, api: &Api, method: &[u8], target: &[u8]) -> Result<Vec<u8>, Stop>
     requires { IsLinked api.now }
-    ensures { Gives (λ out. IsPrinted api.now method.now target.now out.items) ⊥ (IsRefusal api.now method.now target.now) ⊥ result }
+    ensures { Gives (λ out. IsPrinted api.now method.now target.now out.items) (λ _. ⊥) (IsRefusal api.now method.now target.now) ⊥ result }
 {
     match bind(alloc, api, method, target) {
         Ok(message) => {
@@ -80,7 +82,7 @@ pub(crate) fn bind_output<F: Files>(
     words: Bind<'_>,
     files: &mut F,
 ) -> Result<Vec<u8>, Stop>
-    ensures gives { Gives (λ out. IfSome (F.contents files.old words.entry.set.now) (λ file. IsOutput file (bind_view words.entry) out.items)) (IfSome (F.contents files.old words.entry.set.now) ServesNothing) (λ r. IfSome (F.contents files.old words.entry.set.now) (λ file. IsRefusedBy file (bind_view words.entry) r)) (Rose (F.faults files.old) (F.faults files.new)) result }
+    ensures gives { Gives (λ out. IfSome (F.contents files.old words.entry.set.now) (λ file. IsOutput file (bind_view words.entry) out.items)) (λ f. IfSome (F.contents files.old words.entry.set.now) (λ file. IsUnserved file f)) (λ r. IfSome (F.contents files.old words.entry.set.now) (λ file. IsRefusedBy file (bind_view words.entry) r)) (Rose (F.faults files.old) (F.faults files.new)) result }
     ensures later { F.faults files.old ≤ F.faults files.new }
     ensures same { F.contents files.new ≡ F.contents files.old }
 {

@@ -81,7 +81,7 @@ fn message_bytes(
     requires linked { IsLinked api.now }
     requires served { is_served method.now target.now ≡ true }
     requires captures { Captures api.now target.now text.now }
-    ensures { Gives (λ bytes. IsBound api.now method.now target.now bytes.items) ⊥ (IsRefusal api.now method.now target.now) ⊥ result }
+    ensures { Gives (λ bytes. IsBound api.now method.now target.now bytes.items) (λ _. ⊥) (IsRefusal api.now method.now target.now) ⊥ result }
 {
     match text_of(alloc, text)? {
         Some(text) => {
@@ -98,7 +98,7 @@ fn message_bytes(
 /// The bytes of the message that a request means.
 pub(crate) fn bind(alloc: Global, api: &Api, method: &[u8], target: &[u8]) -> Result<Vec<u8>, Stop>
     requires { IsLinked api.now }
-    ensures { Gives (λ bytes. IsBound api.now method.now target.now bytes.items) ⊥ (IsRefusal api.now method.now target.now) ⊥ result }
+    ensures { Gives (λ bytes. IsBound api.now method.now target.now bytes.items) (λ _. ⊥) (IsRefusal api.now method.now target.now) ⊥ result }
 {
     if !is_served(method, target) {
         return Err(Stop::Refused(Refusal::NotBuilt));

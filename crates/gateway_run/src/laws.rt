@@ -3,13 +3,20 @@
 ghost use Rattle.std.specs.Prelude.{◌≡◌, ℕ, List};
 ghost use Rattle.gateway_run.specs.Commands.{BindWords};
 ghost use Rattle.gateway_run.specs.Outcomes.{IsOutput, IsRefusedBy};
-ghost use Rattle.gateway_run.specs.ServedSet.{Declares};
+ghost use Rattle.gateway_run.specs.ServedSet.{Declares, IsUnserved};
 ghost use Rattle.gateway_run.specs.declared.api.Api.{Api};
+ghost use Rattle.gateway_run.specs.declared.descriptor_fault.DescriptorFault.{DescriptorFault};
 ghost use Rattle.gateway_run.specs.declared.refusal.Refusal.{Refusal};
 
 /// The bytes of a set serve one thing at most.
 pub fn one_thing_is_served()
     ensures { (bytes : List ℕ) (a b : Api) → Declares bytes a → Declares bytes b → a ≡ b }
+{}
+
+/// A set that has a fault serves nothing, and has one fault.
+pub fn one_fault_of_a_set()
+    ensures nothing { (bytes : List ℕ) (f : DescriptorFault) (api : Api) → IsUnserved bytes f → Declares bytes api → ⊥ }
+    ensures one { (bytes : List ℕ) (f g : DescriptorFault) → IsUnserved bytes f → IsUnserved bytes g → f ≡ g }
 {}
 
 /// A request that is refused prints nothing, is refused for one cause, and one that is not prints one

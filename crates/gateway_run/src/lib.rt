@@ -9,7 +9,9 @@ mod api;
 mod bind_command;
 mod binding;
 mod command;
+mod descriptor_fault;
 mod distinct;
+mod error_lines;
 mod fields;
 mod json_names;
 mod laws;
@@ -27,6 +29,6 @@ pub use gate_world::{
     Files, FixedFiles, FixedSink, FixedSource, NamedBytes, NoFields, Policy, Read, Sink, Source,
     WriteFailed, Wrote, write_all,
 };
-pub use laws::{one_answer_to_a_request, one_thing_is_served};
+pub use laws::{one_answer_to_a_request, one_fault_of_a_set, one_thing_is_served};
 pub use offline::run_offline;
 pub use status::Status;

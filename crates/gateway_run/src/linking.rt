@@ -35,11 +35,15 @@ fn is_plain_file(file: &FileInfo) -> bool
         && file.extension.is_empty()
 }
 
-/// True where a message declares nothing but fields.
+/// True where a message declares nothing but fields, and is no map's entry and no message set.
 fn is_plain_message(message: &MessageInfo) -> bool
     ensures { result ≡ is_plain_message message.now }
 {
-    message.nested_type.is_empty() && message.enum_type.is_empty() && message.extension.is_empty()
+    message.nested_type.is_empty()
+        && message.enum_type.is_empty()
+        && message.extension.is_empty()
+        && !message.map_entry
+        && !message.message_set_wire_format
 }
 
 /// The names of messages.

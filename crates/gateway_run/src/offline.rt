@@ -7,6 +7,7 @@ ghost use Rattle.gateway_run.specs.Outcomes.{AnswersTold, Ran, Writes, line_of, 
 
 use crate::bind_command::bind_output;
 use crate::command::command_of;
+use crate::error_lines::write_line;
 use crate::status::{Status, Stop};
 use gate_world::{Files, Policy, Sink, Source, write_all};
 use std::alloc::Global;
@@ -68,7 +69,7 @@ pub fn run_offline<F: Files, I: Source, O: Sink, P: Policy + Drop>(
     match run_command(alloc, words, files, out) {
         Ok(()) => Status::Done,
         Err(stop) => {
-            let _ = write_all(err, stop.line().as_bytes());
+            let _ = write_line(err, stop);
             stop.status()
         }
     }

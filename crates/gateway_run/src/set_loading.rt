@@ -44,7 +44,7 @@ pub(crate) fn read_whole<F: Files>(
     files: &mut F,
     path: &str,
 ) -> Result<Vec<u8>, Stop>
-    ensures gives { Gives (λ bytes. IfSome (F.contents files.old path.now) (λ file. bytes.items ≡ take 16777217 file)) ⊥ (λ _. ⊥) (Rose (F.faults files.old) (F.faults files.new)) result }
+    ensures gives { Gives (λ bytes. IfSome (F.contents files.old path.now) (λ file. bytes.items ≡ take 16777217 file)) (λ _. ⊥) (λ _. ⊥) (Rose (F.faults files.old) (F.faults files.new)) result }
     ensures later { F.faults files.old ≤ F.faults files.new }
     ensures same { F.contents files.new ≡ F.contents files.old }
 {

@@ -1,8 +1,9 @@
 //! How a command ends.
 ghost use Rattle.gateway_run.specs.declared.status.Stop.TheVariants.{NoMemory as no_memory};
 ghost use Rattle.std.specs.Prelude.{◌≡◌};
-ghost use Rattle.gateway_run.specs.Outcomes.{number_of, stop_line, stop_status};
+ghost use Rattle.gateway_run.specs.Outcomes.{number_of, stop_status};
 
+use crate::descriptor_fault::DescriptorFault;
 use crate::refusal::Refusal;
 use schema::NoMemory;
 
@@ -48,7 +49,7 @@ pub(crate) enum Stop {
     /// The words are no command.
     Usage,
     /// The descriptor set cannot be served.
-    Descriptors,
+    Descriptors(DescriptorFault),
     /// A read failed.
     ReadFault,
     /// A write failed.
@@ -66,25 +67,11 @@ impl Stop {
     {
         match self {
             Stop::Usage => Status::Usage,
-            Stop::Descriptors => Status::Descriptors,
+            Stop::Descriptors(_) => Status::Descriptors,
             Stop::ReadFault => Status::ReadFault,
             Stop::WriteFault => Status::WriteFault,
             Stop::NoMemory => Status::NoMemory,
             Stop::Refused(_) => Status::Refused,
-        }
-    }
-
-    /// The line on standard error.
-    pub fn line(self) -> &'static str
-        ensures { result.now ≡ stop_line self }
-    {
-        match self {
-            Stop::Usage => "usage\n",
-            Stop::Descriptors => "descriptors: not built\n",
-            Stop::ReadFault => "read fault\n",
-            Stop::WriteFault => "write fault\n",
-            Stop::NoMemory => "out of memory\n",
-            Stop::Refused(refusal) => refusal.line(),
         }
     }
 }

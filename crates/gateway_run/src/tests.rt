@@ -145,8 +145,16 @@ fn a_target_has_at_most_16384_bytes(rt: HostRuntime) -> Result<(), Fail> {
     Ok(())
 }
 
+/// The error line of a row: none where the set is served.
+fn line_of(alloc: Global, verdict: &str) -> Result<String, Fail> {
+    if verdict == "read" {
+        return Ok(String::new(alloc));
+    }
+    Ok(format!(in alloc; "descriptors: {verdict}\n")?)
+}
+
 #[test]
-fn each_point_of_the_form_is_judged(rt: HostRuntime) -> Result<(), Fail> {
+fn each_fault_and_each_point_of_the_form_is_judged(rt: HostRuntime) -> Result<(), Fail> {
     let mut count = 0u32;
     for row in CASES.lines() {
         let (label, row) = row.split_once('|').ok_or("a label")?;
@@ -155,11 +163,7 @@ fn each_point_of_the_form_is_judged(rt: HostRuntime) -> Result<(), Fail> {
         let set = hex::decode(rt.alloc(), digits)?;
         let ran = bind(rt.alloc(), set.as_slice(), "GET", target)?;
         let is_read = verdict == "read";
-        let line = if is_read {
-            ""
-        } else {
-            "descriptors: not built\n"
-        };
+        let line = line_of(rt.alloc(), verdict)?;
         assert_eq!(rt; ran.err.bytes(), line.as_bytes(), "{label}");
         assert_eq!(rt; ran.status.number(), if is_read { 0 } else { 3 }, "{label}");
         assert_eq!(rt; ran.out.bytes().is_empty(), !is_read, "{label}");
@@ -187,11 +191,15 @@ fn padded(alloc: Global, len: usize) -> Result<Vec<u8>, Fail> {
 
 #[test]
 fn a_set_has_at_most_16777216_bytes(rt: HostRuntime) -> Result<(), Fail> {
-    for (len, number) in [(16_777_216, 0), (16_777_217, 3)] {
+    for (len, number, line) in [
+        (16_777_216, 0, ""),
+        (16_777_217, 3, "descriptors: TooLong\n"),
+    ] {
         let set = padded(rt.alloc(), len)?;
         assert_eq!(rt; set.len(), len, "{len}");
         let ran = bind(rt.alloc(), set.as_slice(), "GET", "/v1/items/x")?;
         assert_eq!(rt; ran.status.number(), number, "{len}");
+        assert_eq!(rt; ran.err.bytes(), line.as_bytes(), "{len}");
     }
     Ok(())
 }

@@ -1,6 +1,7 @@
 //! Each public call of the types and of the readers once, where memory is found.
 
-use descriptor_set::{SetFault, read_set};
+mod sets;
+
 use schema::{
     Blob, EnumType, Field, Item, Key, Kind, Known, List, MessageType, NoMemory, Pairs, Presence,
     Scalar, Shape, Slot, Text, TypeId, Types, Value, find_field, is_default, sound, valid,
@@ -418,23 +419,4 @@ fn faults_are_told_in_place(rt: HostRuntime) {
     assert_eq!(rt; told_by(b"\x00"), (0, Some((0, WireKind::BadTag))));
     assert_eq!(rt; told_by(&[0x0b; 100]), (0, Some((99, WireKind::TooDeep))));
     assert_eq!(rt; told_by(&[0x0b; 99]), (0, Some((0, WireKind::BadGroup))));
-}
-
-#[test]
-fn sets_are_read(rt: HostRuntime) -> Result<(), Fail> {
-    // one file with the name a.proto and the package p
-    let bytes: [u8; 14] = *b"\x0a\x0c\x0a\x07a.proto\x12\x01p";
-    match read_set(rt.alloc(), &bytes) {
-        Ok(set) => {
-            assert_eq!(rt; set.files.len(), 1);
-            for file in set.files.as_slice() {
-                assert_eq!(rt; file.name.as_str(), "a.proto");
-                assert_eq!(rt; file.package.as_str(), "p");
-                assert_eq!(rt; file.syntax.as_str(), "");
-            }
-        }
-        Err(_) => assert!(rt; false),
-    }
-    assert!(rt; matches!(read_set(rt.alloc(), &bytes[..13]), Err(SetFault::NotBuilt)));
-    Ok(())
 }

@@ -1,11 +1,7 @@
-use Rattle.std.proofs.Common.{◌≡◌, ◌++◌, drop, map, ℕ, List, Bor}
-use Rattle.std.specs.List.{list_all}
+use Rattle.std.proofs.Common.{◌≡◌, ◌++◌, drop, map, Bor}
 use Rattle.descriptor_set.specs.DescriptorFields.{enum_info}
-use Rattle.descriptor_set.specs.SetForm.{enum_form}
+use Rattle.schema.specs.declared.value.Value.{Value}
 use Rattle.descriptor_set.proofs.message_reader.read_enums.Given as goal
 
-abbrev pub invariant-loop-bytes : goal.invariant-loop-bytes
-invariant-loop-bytes l = record {
-  forms : list_all (enum_form l.levels) (map (λ (b : Bor (List ℕ)). b.now) (drop l.bytes-index l.messages)) ≡ list_all (enum_form l.levels) (map (λ (b : Bor (List ℕ)). b.now) l.messages);
-  told : l.enums ++ map (enum_info l.levels) (map (λ (b : Bor (List ℕ)). b.now) (drop l.bytes-index l.messages)) ≡ map (enum_info l.levels) (map (λ (b : Bor (List ℕ)). b.now) l.messages);
-}
+abbrev pub invariant-loop-value : goal.invariant-loop-value
+invariant-loop-value l = l.read ++ map enum_info (map (λ (v : Bor Value). v.now) (drop l.value-index l.values)) ≡ map enum_info (map (λ (v : Bor Value). v.now) l.values)

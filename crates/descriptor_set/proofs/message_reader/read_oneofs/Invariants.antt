@@ -1,11 +1,7 @@
-use Rattle.std.proofs.Common.{◌≡◌, ◌++◌, drop, map, ℕ, List, Bor}
-use Rattle.std.specs.List.{list_all}
+use Rattle.std.proofs.Common.{◌≡◌, ◌++◌, drop, map, Bor}
 use Rattle.descriptor_set.specs.DescriptorFields.{oneof_name}
-use Rattle.descriptor_set.specs.SetForm.{oneof_form}
+use Rattle.schema.specs.declared.value.Value.{Value}
 use Rattle.descriptor_set.proofs.message_reader.read_oneofs.Given as goal
 
-abbrev pub invariant-loop-bytes : goal.invariant-loop-bytes
-invariant-loop-bytes l = record {
-  forms : list_all (oneof_form l.levels) (map (λ (b : Bor (List ℕ)). b.now) (drop l.bytes-index l.messages)) ≡ list_all (oneof_form l.levels) (map (λ (b : Bor (List ℕ)). b.now) l.messages);
-  told : l.names ++ map (oneof_name l.levels) (map (λ (b : Bor (List ℕ)). b.now) (drop l.bytes-index l.messages)) ≡ map (oneof_name l.levels) (map (λ (b : Bor (List ℕ)). b.now) l.messages);
-}
+abbrev pub invariant-loop-value : goal.invariant-loop-value
+invariant-loop-value l = l.read ++ map oneof_name (map (λ (v : Bor Value). v.now) (drop l.value-index l.values)) ≡ map oneof_name (map (λ (v : Bor Value). v.now) l.values)

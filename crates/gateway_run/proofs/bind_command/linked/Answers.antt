@@ -1,4 +1,3 @@
-use Rattle.std.proofs.Common.{sym, subst}
 use Rattle.gateway_run.proofs.LinkLemmas.{served_linked}
 use Rattle.gateway_run.specs.ServedSet.{IsServed}
 use Rattle.gateway_run.proofs.bind_command.linked.Goals as goal
@@ -8,10 +7,10 @@ returns-in-Some c =
     let served : IsServed c.in-Ok.set c.in-Some.api = rw c.in-Some.is at c.in_ok-api-in-Ok.ensures in
     record {
       gives = (
-        record { short = c.in-Ok.ensures.read.0; form = c.in-Ok.ensures.read.1; served = subst (λ z. IsServed z c.in-Some.api) c.in-Ok.ensures.ok served },
+        record { set = c.in-Ok.set; read = c.in-Ok.ensures.read; served = served },
         served_linked served.file c.in-Some.api served.served,
       );
     }
 
 pub returns-in-Ok : goal.returns-in-Ok
-returns-in-Ok c = record { gives = λ api d. (rw c.in-None.is at c.in_ok-api-in-Ok.ensures) api (subst (λ z. IsServed z api) (sym c.in-Ok.ensures.ok) d.served) }
+returns-in-Ok c = record { gives = record { set = c.in-Ok.set; read = c.in-Ok.ensures.read; nothing = rw c.in-None.is at c.in_ok-api-in-Ok.ensures } }
