@@ -4,4 +4,6 @@
 #[cfg(test)]
 mod tests;
 #[cfg(test)]
+mod wire_laws;
+#[cfg(test)]
 mod wire_tests;

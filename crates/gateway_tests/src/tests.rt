@@ -209,7 +209,7 @@ fn want_of_memory_is_told(rt: HostRuntime) -> Result<(), Fail> {
 
 /// A book: a title, an author, pages, packed marks, a stock by key, a zigzag number, a fixed number,
 /// a oneof of a person and an owner, and a book that follows it.
-fn book(alloc: Global) -> Result<Types, Fail> {
+pub(crate) fn book(alloc: Global) -> Result<Types, Fail> {
     let book = Kind::Message(TypeId(0));
     let int32 = Kind::One(Scalar::Int32);
     let mut fields = List::new(alloc);
@@ -256,7 +256,7 @@ fn book(alloc: Global) -> Result<Types, Fail> {
 }
 
 /// A book with a value in each field but the title, which its sequel has.
-fn full_book(alloc: Global) -> Result<Value, Fail> {
+pub(crate) fn full_book(alloc: Global) -> Result<Value, Fail> {
     let mut value = Value::new(alloc);
     value.set(3, Slot::One(Item::Number(-1)))?;
     let mut marks = List::new(alloc);
@@ -296,7 +296,7 @@ fn values_of_every_shape_are_written(rt: HostRuntime) -> Result<(), Fail> {
 }
 
 /// The canonical bytes of what bytes are as a book, in hex; or why they are none.
-fn recoded(
+pub(crate) fn recoded(
     alloc: Global,
     types: &Types,
     bytes: &[u8],
