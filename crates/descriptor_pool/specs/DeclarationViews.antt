@@ -1,0 +1,13 @@
+-- What contracts see of a declaration.
+use Rattle.std.specs.Prelude.{ℕ, List}
+use Rattle.descriptor_set.specs.declared.file_set.MessageInfo.{out-MessageInfo}
+use Rattle.descriptor_pool.specs.DeclaredNames.{Declaration, File, Message, Enum, Service, Extension, message_of}
+use Rattle.descriptor_pool.specs.declared.declared_names.Declared.{Declared}
+use Rattle.descriptor_pool.specs.declared.declared_names.Declared.TheVariants.{File as FileOf, Message as MessageOf, Enum as EnumOf, Service as ServiceOf, Extension as ExtensionOf}
+
+abbrev pub seen : List ℕ → Declared → Declaration
+seen name FileOf = File name
+seen name (MessageOf f m) = Message (message_of name f.now.syntax (out-MessageInfo m.now))
+seen name (EnumOf e) = Enum (record { name = name; values = e.now.value })
+seen name ServiceOf = Service name
+seen name ExtensionOf = Extension name

@@ -1,0 +1,11 @@
+pub mod DeclarationViews
+pub mod DeclaredNames
+pub mod DeclaredTypes
+pub mod FieldTypes
+pub mod JsonFieldNames
+pub mod NameIndex
+pub mod QueueSteps
+pub mod ReachableTypes
+pub mod SetMethods
+pub mod TextSets
+pub mod WellKnownTypes

@@ -1,0 +1,48 @@
+-- The first item that passes a test, in lists of one or two.
+use Rattle.std.proofs.Common.{◌≡◌, ◌||◌, ◌==◌, ℕ, ℤ, Bool, true, false, cond, List, [], ◌∷◌, length, map, Some, None, option_map, refl, ap, ◌∙◌, ⊎_elim, arith}
+use Rattle.std.proofs.lemmas.Bool.{both_ways, or_cases}
+use Rattle.std.specs.List.{find, list_any}
+use Rattle.std.specs.Ordering.{int_eq}
+use Rattle.descriptor_set.specs.declared.file_set.FieldInfo.{FieldInfo}
+use Rattle.descriptor_pool.specs.FieldTypes.{field_numbered}
+use Rattle.schema.specs.Types.{field_in}
+use Rattle.schema.specs.declared.types.fields.Field.{Field}
+
+-- the first field of a number is the first that passes the test
+pub field_numbered_is : (n : ℤ) (fs : List FieldInfo) → field_numbered n fs ≡ find (λ f. int_eq f.number n) fs
+field_numbered_is n [] = refl
+field_numbered_is n (f ∷ fs) = ap (λ o. cond (int_eq f.number n) (Some f) o) (field_numbered_is n fs)
+
+-- the same of what is linked of fields
+pub field_in_is : (link : FieldInfo → Field) (n : ℕ) (fs : List FieldInfo) → field_in (map link fs) n ≡ option_map link (find (λ f. (link f).number == n) fs)
+field_in_is link n [] = refl
+field_in_is link n (f ∷ fs) = pick ((link f).number == n) (field_in_is link n fs)
+  where
+    pick : (b : Bool) → field_in (map link fs) n ≡ option_map link (find (λ g. (link g).number == n) fs)
+        → cond b (Some (link f)) (field_in (map link fs) n) ≡ option_map link (cond b (Some f) (find (λ g. (link g).number == n) fs))
+    pick true rest = refl
+    pick false rest = rest
+
+module _ {X : Type 0} (r p : X → Bool) (first : (x : X) → p x ≡ true → r x ≡ true) where
+  -- the one item of a list, where one passes
+  pub first_of_one : (xs : List X) → length xs ≡ 1 → list_any p xs ≡ true → (x : X) × (p x ≡ true) × (find r xs ≡ Some x)
+  first_of_one [] l a = absurd (cc a)
+  first_of_one (x ∷ []) l a = ⊎_elim (λ e. (x, e, ap (λ b. cond b (Some x) None) (first x e))) (λ e. absurd (cc e)) (or_cases (p x) false a)
+  first_of_one (x ∷ y ∷ xs) l a = absurd (omega arith)
+
+  -- of two items, where one passes, and one passes another test and does not come first by that
+  pub first_of_two : (q : X → Bool) → ((x : X) → q x ≡ true → r x ≡ false) → (xs : List X) → length xs ≡ 2 → list_any p xs ≡ true → list_any q xs ≡ true
+      → (x : X) × (p x ≡ true) × (find r xs ≡ Some x)
+  first_of_two q other [] l a b = absurd (cc a)
+  first_of_two q other (x ∷ []) l a b = absurd (omega arith)
+  first_of_two q other (x ∷ y ∷ []) l a b =
+      ⊎_elim (λ e. (x, e, ap (λ c. cond c (Some x) (cond (r y) (Some y) None)) (first x e)))
+      (λ rest. ⊎_elim (λ e. (y, e, ap (λ c. cond c (Some x) (cond (r y) (Some y) None)) (not_first e) ∙ ap (λ c. cond c (Some y) None) (first y e))) (λ e. absurd (cc e)) (or_cases (p y) false rest))
+      (or_cases (p x) (p y || false) a)
+    where
+      not_first : p y ≡ true → r x ≡ false
+      not_first e =
+          ⊎_elim (λ f. other x f)
+          (λ rest. ⊎_elim (λ f. absurd (both_ways (r y) (other y f) (first y e))) (λ f. absurd (cc f)) (or_cases (q y) false rest))
+          (or_cases (q x) (q y || false) b)
+  first_of_two q other (x ∷ y ∷ z ∷ xs) l a b = absurd (omega arith)

@@ -1,0 +1,13 @@
+pub use Rattle.http_rules.specs.PercentDecoding
+pub use Rattle.http_rules.specs.Template
+pub mod KeySteps
+pub mod LinkFaults
+pub mod LinkedTypes
+pub mod MessageFaults
+pub mod MethodFaults
+pub mod NameFaults
+pub mod PlaceSteps
+pub mod RealNumbers
+pub mod ServedTemplates
+pub mod SetApi
+pub mod SetFaults

@@ -1,0 +1,780 @@
+#!/usr/bin/env python3
+"""Makes the descriptor sets that the tests of linking judge, with their answers.
+
+usage: link_sets.py [--check]
+
+It writes crates/schema_link/src/tests/sets.rt: tables of sets, a line for each with its label, its first
+fault or `ok`, and its bytes. The answers are worked out by hand from descriptor.proto,
+google/api/http.proto and the rules of linking in docs/DEFINITIONS.md.
+With --check it writes nothing, and fails where the file differs from what it would write.
+"""
+import pathlib
+import re
+import sys
+
+ROOT = pathlib.Path(__file__).resolve().parent.parent
+MADE = ROOT / "crates/schema_link/src/tests/sets.rt"
+
+sys.path.insert(0, str(ROOT / "scripts"))
+from sample_sets import field, file, fileset, message, method, num, options, rule, service, text  # noqa: E402
+
+DOUBLE, FLOAT, INT64, UINT64, INT32, FIXED64, FIXED32, BOOL, STRING = range(1, 10)
+GROUP, MESSAGE, BYTES, UINT32, ENUM, SFIXED32, SFIXED64, SINT32, SINT64 = range(10, 19)
+INTEGERS = [INT64, UINT64, INT32, FIXED64, FIXED32, UINT32, SFIXED32, SFIXED64, SINT32, SINT64]
+
+# What more a field has: an index of a oneof, and the option of proto3.
+FIRST_ONEOF, OPTIONAL = num(9, 0), num(17, 1)
+
+# What more a message has: oneofs, and options.
+ONEOF, MESSAGE_SET, MAP_ENTRY = text(8, text(1, "o")), text(7, num(1, 1)), text(7, num(7, 1))
+
+
+def of(name, number, kind, type_name="", label=1, more=b"", json=None):
+    """FieldDescriptorProto: a field of a type."""
+    named = text(6, type_name) if type_name else b""
+    return field(name, number, label, kind, json, named + more)
+
+
+def x(kind=STRING, type_name="", number=2, label=1, more=b"", json=None):
+    """The field `x`."""
+    return of("x", number, kind, type_name, label, more, json)
+
+
+def extension(extendee, kind=STRING):
+    """FieldDescriptorProto: an extension of a message."""
+    return of("y", 100, kind, more=text(2, extendee))
+
+
+def enum(name, *values):
+    """EnumDescriptorProto of names with numbers."""
+    return text(1, name) + b"".join(text(2, text(1, value) + num(2, number)) for value, number in values)
+
+
+def entry(*fields, name="XEntry", more=b""):
+    """DescriptorProto: the entry of a map."""
+    return message(name, fields, MAP_ENTRY + more)
+
+
+def key(kind=STRING, name="key", number=1, label=1, more=b"", json=None):
+    """The key of a map's entry."""
+    return of(name, number, kind, "", label, more, json)
+
+
+def value(kind=INT32, type_name="", name="value", number=2, label=1, more=b""):
+    """The value of a map's entry."""
+    return of(name, number, kind, type_name, label, more)
+
+
+def custom(kind, template="/v1/{id}"):
+    """HttpRule of a custom kind."""
+    return text(8, text(1, kind) + text(2, template))
+
+
+def also(http):
+    """An additional binding of a rule."""
+    return text(11, http)
+
+
+def kinds(count, first=0):
+    """Additional bindings, each of a kind of its own."""
+    return b"".join(also(custom(f"K{at}", "/a")) for at in range(first, first + count))
+
+
+def empty_rule():
+    """A method whose annotation says nothing."""
+    return method(http=b"", more=text(4, options(b"")))
+
+
+def a_set(fields=(), messages=(), inner=b"", more=b"", services=None, files=(), syntax="proto3"):
+    """The set of one file, whose service S takes and gives M in Get: M has a string `id` and these
+    fields and more in it; the file has further messages and more in it; the set has further files."""
+    first = message("M", [field(), *fields], inner)
+    return fileset(file("a.proto", "p", [first, *messages], services, syntax, more), *files)
+
+
+def by_methods(*methods, **given):
+    """The same set, whose service has these methods."""
+    return a_set(services=[service("S", methods)], **given)
+
+
+def by_rule(http, **given):
+    """The same set, whose method has this rule."""
+    return by_methods(method(http=http), **given)
+
+
+def put(request=".p.M", response=".p.M", **given):
+    """The method Put."""
+    return method("Put", request, response, **given)
+
+
+def with_x(*given, **named):
+    """The same set, whose M has this field `x`, and which has an enum E and a oneof in M."""
+    return a_set([x(*given, **named)], inner=ONEOF, more=text(5, enum("E", ("A", 0))))
+
+
+def other(messages, name="b.proto", package="q", syntax="proto3", more=b""):
+    """FileDescriptorProto: a file without services."""
+    return file(name, package, messages, [], syntax, more)
+
+
+def reach(type_name, *files, label=1):
+    """The same set, whose M has a field `x` of a message of these files."""
+    return a_set([x(MESSAGE, type_name, label=label)], files=files)
+
+
+def known(name, *fields, syntax="proto3", inner=b"", more=b""):
+    """The same set, whose M has a field `x` of a message of google.protobuf."""
+    return reach(f".google.protobuf.{name}", other([message(name, fields, inner)], "b.proto", "google.protobuf", syntax, more))
+
+
+def map_of(*fields, label=3, inner=b"", messages=(), more=b"", field_more=b"", number=2):
+    """The same set, whose M has a map `x` with an entry of these fields."""
+    one = x(MESSAGE, ".p.M.XEntry", label=label, more=field_more, number=number)
+    return a_set([one], messages=messages, inner=text(3, entry(*fields)) + inner, more=more)
+
+
+def enum_set(*values, **given):
+    """The same set, whose M has a field `x` of the enum E with these values."""
+    return a_set([x(ENUM, ".p.E")], more=text(5, enum("E", *values)), **given)
+
+
+def pair(name, json=None, first="user_id", first_json=None):
+    """The same set, whose M has two fields of these names and JSON names."""
+    return a_set([of(first, 2, STRING, json=first_json), of(name, 3, STRING, json=json)])
+
+
+def runs(data, *units):
+    """Pieces of a set in which each of the units stands many times over."""
+    out, at = [], 0
+    many = b"|".join(b"(" + re.escape(unit) + b"){100,}" for unit in units)
+    for run in re.finditer(many, data, re.DOTALL):
+        unit = units[run.lastindex - 1]
+        out += [data[at : run.start()].hex(), f"{unit.hex()}*{len(run.group()) // len(unit)}"]
+        at = run.end()
+    return " ".join(piece for piece in [*out, data[at:].hex()] if piece)
+
+
+def counted(make, unit, count):
+    """Pieces of the set with so many copies of a unit, each with its number in four digits behind it."""
+    copies = b"".join(unit + f"{at:04}".encode() for at in range(count))
+    before, behind = make(copies).split(copies)
+    return f"{before.hex()} {unit.hex()}#{count} {behind.hex()}"
+
+
+# Declarations that say nothing: in a file, in a message, in a rule.
+EMPTY_MESSAGE, EMPTY_ENUM, EMPTY_EXTENSION = text(4, b""), text(5, b""), text(7, b"")
+EMPTY_NESTED, EMPTY_NESTED_ENUM, EMPTY_FIELD = text(3, b""), text(4, b""), text(2, b"")
+NAMED_MESSAGE = text(4, text(1, "0000"))[:-4]
+GET, EMPTY_RULE = also(rule("/a")), also(b"")
+FLOATS = message("N", [of("f", 1, FLOAT)])
+N, K, L = message("N", []), message("K", []), message("L", [])
+E = enum("E", ("A", 0))
+S = service()
+
+NAMES_AND_SIZES = [
+    ("one GET", "ok", a_set()),
+    ("an empty set", "NoRoute set", b""),
+    # how many messages and enums
+    ("10,000 messages", "ok", counted(lambda more: a_set(more=more), NAMED_MESSAGE, 9_999)),
+    ("10,001 messages", "TooMany types", counted(lambda more: a_set(more=more), NAMED_MESSAGE, 10_000)),
+    ("10,000 messages and enums of two names", "DoubleName p.", runs(a_set(more=EMPTY_MESSAGE * 5_000 + EMPTY_ENUM * 4_999), EMPTY_MESSAGE, EMPTY_ENUM)),
+    ("10,001 messages and enums of two names", "TooMany types", runs(a_set(more=EMPTY_MESSAGE * 5_000 + EMPTY_ENUM * 5_000), EMPTY_MESSAGE, EMPTY_ENUM)),
+    ("10,001 messages in two files", "TooMany types", runs(a_set(more=EMPTY_MESSAGE * 5_000, files=[other([b""] * 5_000)]), EMPTY_MESSAGE)),
+    ("10,000 messages in a message", "TooMany types", runs(a_set(inner=EMPTY_NESTED * 10_000), EMPTY_NESTED)),
+    ("10,000 enums in a message", "TooMany types", runs(a_set(inner=EMPTY_NESTED_ENUM * 10_000), EMPTY_NESTED_ENUM)),
+    ("10,001 extensions are no types", "ok", runs(a_set(more=EMPTY_EXTENSION * 10_001), EMPTY_EXTENSION)),
+    ("10,001 fields are no types", "BadField p.N.", runs(by_methods(method(), put(".p.N"), messages=[message("N", [b""] * 10_001)]), EMPTY_FIELD)),
+    # how many bindings
+    ("10,000 bindings", "NotBuilt set", runs(by_rule(rule("/a", GET * 9_999)), GET)),
+    ("10,001 bindings", "TooMany bindings", runs(by_rule(rule("/a", GET * 10_000)), GET)),
+    ("10,000 bindings of two methods", "NotBuilt set", runs(by_methods(method(http=rule("/a", GET * 4_999)), put(http=rule("/a", GET * 4_999))), GET)),
+    ("10,001 bindings of two methods", "TooMany bindings", runs(by_methods(method(http=rule("/a", GET * 4_999)), put(http=rule("/a", GET * 5_000))), GET)),
+    ("10,000 bindings, most without a pattern", "NoPattern /p.S/Get", runs(by_rule(rule("/a", EMPTY_RULE * 9_999)), EMPTY_RULE)),
+    ("10,001 bindings, most without a pattern", "TooMany bindings", runs(by_rule(rule("/a", EMPTY_RULE * 10_000)), EMPTY_RULE)),
+    ("10,000 bindings, and one in an additional one", "NestedAdditional /p.S/Get", runs(by_rule(rule("/a", GET * 9_998 + also(rule("/a", GET)))), GET)),
+    # how many methods
+    ("64 methods", "NotBuilt set", by_rule(custom("K") + kinds(63))),
+    ("65 methods", "TooMany methods", by_rule(custom("K") + kinds(64))),
+    ("64 methods, one of them twice", "NotBuilt set", by_rule(custom("K0") + kinds(64))),
+    ("GET as a pattern and as a custom kind", "NotBuilt set", by_rule(rule("/a", also(custom("GET")) + kinds(63)))),
+    ("GET as a pattern and get as a custom kind", "TooMany methods", by_rule(rule("/a", also(custom("get")) + kinds(63)))),
+    ("the five patterns and 59 kinds", "NotBuilt set", by_rule(b"".join(also(text(at, "/a")) for at in range(2, 7)) + custom("K0") + kinds(59))),
+    ("the five patterns and 60 kinds", "TooMany methods", by_rule(b"".join(also(text(at, "/a")) for at in range(2, 7)) + custom("K0") + kinds(60))),
+    ("the kind of all methods is the 64th", "NotBuilt set", by_rule(custom("*") + kinds(63))),
+    ("the kind of all methods is the 65th", "TooMany methods", by_rule(custom("*") + kinds(64))),
+    ("64 methods and a rule without a pattern", "NoPattern /p.S/Get", by_rule(custom("K") + kinds(63) + EMPTY_RULE)),
+    ("a kind that may not be is the 64th", "BadMethod /p.S/Get HEAD", by_rule(custom("HEAD") + kinds(63))),
+    ("a kind that may not be is the 65th", "TooMany methods", by_rule(custom("HEAD") + kinds(64))),
+    ("64 kinds of two methods", "NotBuilt set", by_methods(method(http=custom("K0") + kinds(32)), put(http=custom("K32") + kinds(32, 32)))),
+    ("65 kinds of two methods", "TooMany methods", by_methods(method(http=custom("K0") + kinds(32)), put(http=custom("K32") + kinds(33, 32)))),
+    # types before bindings before methods
+    ("10,001 messages and 10,001 bindings", "TooMany types", runs(by_rule(rule("/a", EMPTY_RULE * 10_000), more=EMPTY_MESSAGE * 10_000), EMPTY_MESSAGE, EMPTY_RULE)),
+    ("10,001 messages and 65 methods", "TooMany types", runs(by_rule(custom("K") + kinds(64), more=EMPTY_MESSAGE * 10_000), EMPTY_MESSAGE)),
+    ("10,001 bindings and 65 methods", "TooMany bindings", runs(by_rule(custom("K") + kinds(64) + EMPTY_RULE * 9_936), EMPTY_RULE)),
+    # names of files
+    ("two files of two names", "ok", a_set(files=[other([])])),
+    ("two files of one name", "DoubleName a.proto", a_set(files=[other([], "a.proto")])),
+    ("two files behind another of one name", "DoubleName b.proto", a_set(files=[other([]), other([])])),
+    ("two files of no name", "DoubleName ", a_set(files=[other([], ""), other([], "")])),
+    ("a file of a message's name", "ok", a_set(files=[other([], "p.M")])),
+    ("a file of a service's name", "ok", a_set(files=[other([], "p.S")])),
+    # full names
+    ("two messages of one name", "DoubleName p.M", a_set(messages=[message("M", [])])),
+    ("two messages of one name in two files", "DoubleName p.M", a_set(files=[other([message()], package="p")])),
+    ("messages of one name in two packages", "ok", a_set(files=[other([message()])])),
+    ("two messages of one name without a package", "DoubleName M", fileset(file(package=None, messages=[message(), message()], services=[service(methods=[method(request=".M", response=".M")])]))),
+    ("names that differ by case", "ok", a_set(messages=[message("m", [])])),
+    ("two nested messages of one name", "DoubleName p.M.N", a_set(inner=text(3, N) + text(3, N))),
+    ("a nested message of a message's name", "ok", a_set(messages=[N], inner=text(3, N))),
+    ("a nested message named as the one around it", "ok", a_set(inner=text(3, message("M", [])))),
+    ("a message named as a nested one in full", "DoubleName p.M.N", a_set(messages=[message("M.N", [])], inner=text(3, N))),
+    ("a package that is a message's full name", "DoubleName p.M.N", a_set(inner=text(3, N), files=[other([N], package="p.M")])),
+    ("a message named as an enum", "DoubleName p.M", a_set(more=text(5, enum("M", ("A", 0))))),
+    ("two enums of one name", "DoubleName p.E", a_set(more=text(5, E) + text(5, E))),
+    ("two enums of one name in a message", "DoubleName p.M.E", a_set(inner=text(4, E) + text(4, E))),
+    ("two enums of one name in a nested message", "DoubleName p.M.N.E", a_set(inner=text(3, message("N", [], text(4, E) + text(4, E))))),
+    ("an enum and a message of one name in a message", "DoubleName p.M.N", a_set(inner=text(3, N) + text(4, enum("N", ("A", 0))))),
+    ("an enum of one name in a message and a file", "ok", a_set(inner=text(4, E), more=text(5, E))),
+    ("two services of one name", "DoubleName p.S", a_set(services=[S, service("S", [])])),
+    ("a service named as a message", "DoubleName p.M", a_set(services=[S, service("M", [])])),
+    ("a service named as a nested message", "DoubleName p.M.N", a_set(inner=text(3, N), services=[S, service("M.N", [])])),
+    ("a service named as an enum in a message", "DoubleName p.M.E", a_set(inner=text(4, E), services=[S, service("M.E", [])])),
+    ("a service named as an enum in a nested message", "DoubleName p.M.N.E", a_set(inner=text(3, message("N", [], text(4, E))), services=[S, service("M.N.E", [])])),
+    ("a service named as a nested message without the one around it", "ok", a_set(inner=text(3, N), services=[S, service("N", [])])),
+    ("a service of a file's name", "ok", a_set(files=[file("b.proto", "a", [], [service("proto", [])])])),
+    ("a service named as a package", "ok", a_set(files=[file("b.proto", None, [], [service("p", [])])])),
+    ("two methods of one name", "NotBuilt set", by_methods(method(), method())),
+    ("two extensions of one name", "ok", a_set(more=text(7, extension(".q.N")) * 2)),
+    ("an extension named as a message", "ok", a_set(messages=[message("y", [])], more=text(7, extension(".q.N")))),
+    ("values of two enums of one name", "ok", a_set(more=text(5, E) + text(5, enum("F", ("A", 0))))),
+    ("a value named as a message", "ok", a_set(more=text(5, enum("E", ("M", 0))))),
+    # the order of names
+    ("a file's name before its messages'", "DoubleName a.proto", a_set(files=[other([K, K], "a.proto")])),
+    ("the messages of a file before the name of the next", "DoubleName p.K", a_set(messages=[K, K], files=[other([], "a.proto")])),
+    ("a message's name before those in it", "DoubleName q.K", a_set(files=[other([K, message("K", [], text(3, N) * 2)])])),
+    ("names in a message before those of the next", "DoubleName p.M.N", a_set(inner=text(3, N) * 2, messages=[K, K])),
+    ("enums in a message before the next message", "DoubleName p.M.E", a_set(inner=text(4, E) * 2, messages=[K, K])),
+    ("nested messages before the enums beside them", "DoubleName p.M.N", a_set(inner=text(4, E) * 2 + text(3, N) * 2)),
+    ("enums in a nested message before the next one", "DoubleName p.M.N.E", a_set(inner=text(3, message("N", [], text(4, E) * 2)) + text(3, K) * 2)),
+    ("messages before the enums of the file", "DoubleName p.K", a_set(more=text(5, E) * 2 + text(4, K) * 2)),
+    ("names in messages before the enums of the file", "DoubleName p.M.N", a_set(inner=text(3, N) * 2, more=text(5, E) * 2)),
+    ("enums before services", "DoubleName p.E", a_set(services=[S, S], more=text(5, E) * 2)),
+    ("services before the next file's name", "DoubleName p.S", a_set(services=[S, S], files=[other([], "a.proto")])),
+    ("the earlier of two names", "DoubleName p.K", a_set(messages=[K, L, K, L])),
+    ("the name that is first seen twice", "DoubleName p.L", a_set(messages=[K, L, L, K])),
+    # the size, names, and whether there is a route
+    ("65 methods and a name twice", "TooMany methods", by_rule(custom("K") + kinds(64), messages=[K, K])),
+    ("10,001 messages and no route", "TooMany types", runs(fileset(file(messages=[b""] * 10_001, services=[])), EMPTY_MESSAGE)),
+    ("a name twice and no route", "DoubleName a.proto", fileset(other([], "a.proto"), other([], "a.proto"))),
+    ("no service", "NoRoute set", a_set(services=[])),
+    ("no method", "NoRoute set", by_methods()),
+    ("no annotation", "NoRoute set", by_methods(method(http=b""))),
+    ("options without an annotation", "NoRoute set", by_methods(method(http=b"", more=text(4, num(33, 1))))),
+    ("no annotation, and nothing else is right", "NoRoute set", by_methods(method("Get", ".p.N", ".p.N", http=b""), fields=[x(FLOAT)], syntax="proto2")),
+    ("an annotation of the second service", "ok", a_set(services=[service("R", [method(http=b"")]), S])),
+    ("an annotation of the second file", "ok", fileset(other([]), file())),
+    ("an annotation of the second method", "ok", by_methods(put(http=b""), method())),
+]
+
+BAD_KINDS = ["HEAD", "CONNECT", "a b", " GET", "a/b", "a:b", "(", "a\"", "a\u007f", "\u00e9", "A" * 33]
+GOOD_KINDS = ["*", "**", "head", "Head", "HEADS", "connect", "GET", "OPTIONS", "0", "A" * 32]
+
+METHODS_AND_RULES = [
+    # input and output
+    ("an unknown input", "UnknownType /p.S/Get .p.N", by_methods(method(request=".p.N"))),
+    ("an unknown output", "UnknownType /p.S/Get .p.N", by_methods(method(response=".p.N"))),
+    ("input before output", "UnknownType /p.S/Get .p.N", by_methods(method(request=".p.N", response=".p.O"))),
+    ("an input without its dot", "UnknownType /p.S/Get p.M", by_methods(method(request="p.M"))),
+    ("an output without its package", "UnknownType /p.S/Get .M", by_methods(method(response=".M"))),
+    ("no input", "UnknownType /p.S/Get", by_methods(method(request=""))),
+    ("an input of another case", "UnknownType /p.S/Get .p.m", by_methods(method(request=".p.m"))),
+    ("an input that is an enum", "UnknownType /p.S/Get .p.E", by_methods(method(request=".p.E"), more=text(5, E))),
+    ("an output that is a service", "UnknownType /p.S/Get .p.S", by_methods(method(response=".p.S"))),
+    ("a nested input", "ok", by_methods(method(request=".p.M.N"), inner=text(3, message("N")))),
+    ("a nested input without the message around it", "UnknownType /p.S/Get .p.N", by_methods(method(request=".p.N"), inner=text(3, message("N")))),
+    ("an input of a later file", "ok", by_methods(method(request=".q.M"), files=[other([message()])])),
+    ("no package", "UnknownType /S/Get .N", fileset(file(package=None, services=[service(methods=[method(request=".N")])]))),
+    ("no package, and known types", "ok", fileset(file(package=None, services=[service(methods=[method(request=".M", response=".M")])]))),
+    ("a package of two names", "UnknownType /a.b.S/Get .p.M", fileset(file(package="a.b"))),
+    ("a method without an annotation is free", "ok", by_methods(method("Put", ".p.N", ".p.O", b""), method())),
+    # patterns
+    ("an empty rule", "NoPattern /p.S/Get", by_methods(empty_rule())),
+    ("a rule with a body alone", "NoPattern /p.S/Get", by_rule(text(7, "*"))),
+    ("an additional rule without a pattern", "NoPattern /p.S/Get", by_rule(rule(more=EMPTY_RULE))),
+    ("a pattern with an empty template", "NotBuilt set", by_rule(rule(""))),
+    ("a rule whose additional one has one", "NestedAdditional /p.S/Get", by_rule(rule(more=also(rule(more=GET))))),
+    ("a rule whose second additional one has one", "NestedAdditional /p.S/Get", by_rule(rule(more=GET + also(rule(more=GET))))),
+    *((f"the kind {kind!r}", f"BadMethod /p.S/Get {kind}", by_rule(custom(kind))) for kind in BAD_KINDS),
+    ("an empty kind", "BadMethod /p.S/Get", by_rule(custom(""))),
+    ("a custom pattern that says nothing", "BadMethod /p.S/Get", by_rule(text(8, b""))),
+    *((f"the kind {kind!r}", "NotBuilt set", by_rule(custom(kind))) for kind in GOOD_KINDS),
+    ("a kind of each sign of a token", "NotBuilt set", by_rule(custom("!#$%&'*+-.^_`|~"))),
+    ("an additional kind that may not be", "BadMethod /p.S/Get HEAD", by_rule(rule(more=also(custom("HEAD"))))),
+    ("a GET behind a custom kind", "ok", by_rule(custom("HEAD") + rule())),
+    ("a custom kind behind a GET", "BadMethod /p.S/Get HEAD", by_rule(rule() + custom("HEAD"))),
+    # two faults of a method
+    ("the output before the rule", "UnknownType /p.S/Get .p.N", by_methods(method(response=".p.N", http=custom("HEAD")))),
+    ("the input before the rule", "UnknownType /p.S/Get .p.N", by_methods(method(request=".p.N", http=text(7, "*")))),
+    ("no pattern before an additional kind", "NoPattern /p.S/Get", by_rule(also(custom("HEAD")) + text(7, "*"))),
+    ("a kind before an additional rule without a pattern", "BadMethod /p.S/Get HEAD", by_rule(EMPTY_RULE + custom("HEAD"))),
+    ("no pattern before an additional rule of an additional one", "NoPattern /p.S/Get", by_rule(also(rule(more=GET)))),
+    ("a kind before an additional rule of an additional one", "BadMethod /p.S/Get HEAD", by_rule(custom("HEAD") + also(rule(more=GET)))),
+    ("an additional rule of an additional one before its pattern", "NestedAdditional /p.S/Get", by_rule(rule(more=also(GET)))),
+    ("an additional rule of an additional one before its kind", "NestedAdditional /p.S/Get", by_rule(rule(more=also(custom("HEAD") + GET)))),
+    ("the first additional rule's pattern before the second's rules", "NoPattern /p.S/Get", by_rule(rule(more=EMPTY_RULE + also(rule(more=GET))))),
+    ("the first additional rule's rules before the second's pattern", "NestedAdditional /p.S/Get", by_rule(rule(more=also(rule(more=GET)) + EMPTY_RULE))),
+    ("the first additional kind before the second", "BadMethod /p.S/Get HEAD", by_rule(rule(more=also(custom("HEAD")) + also(custom("CONNECT"))))),
+    # two methods
+    ("the first method's rule before the second's input", "NoPattern /p.S/Get", by_methods(empty_rule(), put(".p.N"))),
+    ("the first method's input before the second's rule", "UnknownType /p.S/Get .p.N", by_methods(method(request=".p.N"), put(http=text(7, "*")))),
+    ("the second method", "UnknownType /p.S/Put .p.N", by_methods(method(), put(".p.N"))),
+    ("the second method's kind", "BadMethod /p.S/Put HEAD", by_methods(method(), put(http=custom("HEAD")))),
+    ("methods as declared, and not by name", "NoPattern /p.S/Put", by_methods(put(http=text(7, "*")), method(request=".p.N"))),
+    ("the first service", "UnknownType /p.T/Put .p.N", a_set(services=[service("T", [put(".p.N")]), service("S", [method(response=".p.O")])])),
+    ("the first file", "UnknownType /p.S/Get .p.N", fileset(file(services=[service(methods=[method(request=".p.N")])]), file("b.proto", "a", [], [service(methods=[method(response=".p.O")])]))),
+    ("a method of the second file", "UnknownType /a.S/Get .p.O", a_set(files=[file("b.proto", "a", [], [service(methods=[method(response=".p.O")])])])),
+    # names before methods, methods before messages
+    ("a name twice before an unknown input", "DoubleName a.proto", by_methods(method(request=".p.N"), files=[other([], "a.proto")])),
+    ("65 methods before an unknown input", "TooMany methods", by_methods(method(request=".p.N", http=custom("K") + kinds(64)))),
+    ("an unknown output before a float", "UnknownType /p.S/Get .p.N", by_methods(method(response=".p.N"), fields=[x(FLOAT)])),
+    ("the second method's output before the first one's float", "UnknownType /p.S/Put .p.N", by_methods(method(), put(response=".p.N"), fields=[x(FLOAT)])),
+    ("the second method's kind before proto2", "BadMethod /p.S/Put HEAD", by_methods(method(), put(http=custom("HEAD")), syntax="proto2")),
+    ("a name twice before a float", "DoubleName p.K", a_set([x(FLOAT)], [K, K])),
+    ("65 methods before a float", "TooMany methods", by_rule(custom("K") + kinds(64), fields=[x(FLOAT)])),
+    # without a fault, and no single GET of one string
+    ("two methods", "NotBuilt set", by_methods(method(), put())),
+    ("a POST", "NotBuilt set", by_rule(text(4, "/v1/items/{id}"))),
+    ("an additional GET", "NotBuilt set", by_rule(rule(more=GET))),
+    ("a body", "NotBuilt set", by_rule(rule(more=text(7, "*")))),
+    ("a response body", "NotBuilt set", by_rule(rule(more=text(12, "id")))),
+    ("a client that streams", "NotBuilt set", by_methods(method(more=num(5, 1)))),
+    ("a server that streams", "NotBuilt set", by_methods(method(more=num(6, 1)))),
+    ("a template of 64 segments", "ok", by_rule(rule("/a" * 63 + "/{id}"))),
+    ("a template of 65 segments", "NotBuilt set", by_rule(rule("/a" * 64 + "/{id}"))),
+    ("a literal behind the variable", "ok", by_rule(rule("/{id}/b"))),
+    ("a template without its slash", "NotBuilt set", by_rule(rule("v1/{id}"))),
+    ("a template with a verb", "NotBuilt set", by_rule(rule("/v1/{id}:go"))),
+    ("a template with a wildcard", "NotBuilt set", by_rule(rule("/v1/*/{id}"))),
+    ("a variable with its segment", "NotBuilt set", by_rule(rule("/v1/{id=*}"))),
+    ("a variable of many segments", "NotBuilt set", by_rule(rule("/v1/{id=**}"))),
+    ("a template with two variables", "NotBuilt set", by_rule(rule("/v1/{id}/{x}"), fields=[x()])),
+    ("a template without a variable", "NotBuilt set", by_rule(rule("/v1/items"))),
+    ("a variable of no field", "NotBuilt set", by_rule(rule("/v1/{name}"))),
+    ("a variable of a string", "ok", by_rule(rule("/v1/{x}"), fields=[x()])),
+    ("a variable of a number", "NotBuilt set", by_rule(rule("/v1/{x}"), fields=[x(INT32)])),
+    ("a variable of strings", "NotBuilt set", by_rule(rule("/v1/{x}"), fields=[x(label=3)])),
+    ("a variable of an optional string", "NotBuilt set", by_rule(rule("/v1/{x}"), fields=[x(more=OPTIONAL)])),
+    ("a variable of a member of a oneof", "NotBuilt set", by_rule(rule("/v1/{x}"), fields=[x(more=FIRST_ONEOF)], inner=ONEOF)),
+    ("a variable of a message", "NotBuilt set", by_rule(rule("/v1/{x}"), fields=[x(MESSAGE, ".p.M")])),
+    ("a variable of a field in a message", "NotBuilt set", by_rule(rule("/v1/{x.id}"), fields=[x(MESSAGE, ".p.M")])),
+    ("a variable of a field of the output alone", "NotBuilt set", by_methods(method(request=".p.N"), messages=[N])),
+    ("a variable of a field of the input alone", "ok", by_methods(method(response=".p.N"), messages=[N])),
+]
+
+SECONDS, NANOS = of("seconds", 1, INT64), of("nanos", 2, INT32)
+WRAPPERS = {"BoolValue": BOOL, "Int32Value": INT32, "Int64Value": INT64, "UInt32Value": UINT32, "UInt64Value": UINT64, "StringValue": STRING, "BytesValue": BYTES}
+PATH = "/p.S/Get"
+P = "google.protobuf"
+
+
+def wrapped(kind, **given):
+    """The field of a wrapper."""
+    return value(kind, number=1, **given)
+
+
+MESSAGES_AND_FIELDS = [
+    # syntax
+    ("no syntax", "Proto2 p.M", a_set(syntax=None)),
+    ("an empty syntax", "Proto2 p.M", a_set(syntax="")),
+    ("syntax proto2", "Proto2 p.M", a_set(syntax="proto2")),
+    ("syntax editions", "Edition p.M", a_set(syntax="editions", more=num(14, 1000))),
+    ("syntax Proto3", "Edition p.M", a_set(syntax="Proto3")),
+    ("syntax proto3 with an edition", "ok", a_set(more=num(14, 1000))),
+    ("a file of proto2 that nothing reaches", "ok", a_set(files=[other([FLOATS], syntax="proto2")])),
+    ("a file of proto2 that a field reaches", "Proto2 q.N", reach(".q.N", other([N], syntax="proto2"))),
+    ("a file of editions that a field reaches", "Edition q.N", reach(".q.N", other([N], syntax="editions"))),
+    ("a service in a file of proto2", "ok", fileset(other([message()], package="p"), file(messages=[], syntax="proto2"))),
+    ("a message that is nested in one of proto2", "Proto2 q.N.K", reach(".q.N.K", other([message("N", [], text(3, K))], syntax="proto2"))),
+    ("an enum in a file of proto2", "ok", a_set([x(ENUM, ".q.E")], files=[other([], syntax="proto2", more=text(5, E))])),
+    # types that are never served
+    ("Any", f"AnyType {P}.Any {PATH}", known("Any", of("type_url", 1, STRING), of("value", 2, BYTES))),
+    ("Any without fields", f"AnyType {P}.Any {PATH}", known("Any")),
+    ("Any of another package", "ok", reach(".q.Any", other([message("Any", [])]))),
+    ("Any in a message of the package google", f"AnyType {P}.Any {PATH}", reach(f".{P}.Any", other([message("protobuf", [], text(3, message("Any", [])))], package="google"))),
+    ("Any that nothing reaches", "ok", a_set(files=[other([message("Any", [])], package=P)])),
+    ("Any of a method without an annotation", "ok", by_methods(method(), put(f".{P}.Any", http=b""), files=[other([message("Any", [])], package=P)])),
+    ("Any as the input", f"AnyType {P}.Any {PATH}", by_methods(method(request=f".{P}.Any"), files=[other([message("Any", [])], package=P)])),
+    ("Any as the second method's output", f"AnyType {P}.Any /p.S/Put", by_methods(method(), put(response=f".{P}.Any"), files=[other([message("Any", [])], package=P)])),
+    ("a list of Any", f"AnyType {P}.Any {PATH}", reach(f".{P}.Any", other([message("Any", [])], package=P), label=3)),
+    ("Any in a oneof", f"AnyType {P}.Any {PATH}", a_set([x(MESSAGE, f".{P}.Any", more=FIRST_ONEOF)], inner=ONEOF, files=[other([message("Any", [])], package=P)])),
+    ("Struct", f"StructType {P}.Struct {PATH}", known("Struct")),
+    ("Value", f"StructType {P}.Value {PATH}", known("Value")),
+    ("ListValue", f"StructType {P}.ListValue {PATH}", known("ListValue", of("values", 1, MESSAGE, f".{P}.Value", 3))),
+    ("Struct of another package", "ok", reach(".q.Struct", other([message("Struct", [])]))),
+    # extensions
+    ("an extension in the file", "Extension p.M", a_set(more=text(7, extension(".p.M")))),
+    ("an extension in a message", "Extension p.M", a_set(messages=[message("O", [], text(6, extension(".p.M")))])),
+    ("an extension in a nested message", "Extension p.M", a_set(inner=text(3, message("O", [], text(6, extension(".p.M")))))),
+    ("an extension in another file", "Extension p.M", a_set(files=[other([], syntax="proto2", more=text(7, extension(".p.M")))])),
+    ("an extension without its dot", "ok", a_set(more=text(7, extension("p.M")))),
+    ("an extension of what is not declared", "ok", a_set(more=text(7, extension(".p.N")))),
+    ("an extension of a message that nothing reaches", "ok", a_set(messages=[N], more=text(7, extension(".p.N", FLOAT)))),
+    ("an extension of a message that a field reaches", "Extension p.N", a_set([x(MESSAGE, ".p.N")], [N], more=text(7, extension(".p.N")))),
+    ("an extension of an enum's name", "ok", a_set([x(ENUM, ".p.E")], more=text(5, E) + text(7, extension(".p.E")))),
+    ("an extension's type is not reached", "ok", a_set(messages=[FLOATS], more=text(7, of("y", 100, MESSAGE, ".p.N", more=text(2, ".p.N"))))),
+    ("a message set", "Extension p.M", a_set(inner=MESSAGE_SET)),
+    ("no message set, said", "ok", a_set(inner=text(7, num(1, 0)))),
+    ("a message set that nothing reaches", "ok", a_set(messages=[message("N", [], MESSAGE_SET)])),
+    ("a map's entry that is no field's type", "ok", a_set(inner=MAP_ENTRY)),
+    # well-known types
+    ("Timestamp", "ok", known("Timestamp", SECONDS, NANOS)),
+    ("Duration", "ok", known("Duration", SECONDS, NANOS)),
+    ("FieldMask", "ok", known("FieldMask", of("paths", 1, STRING, label=3))),
+    *((name, "ok", known(name, wrapped(kind))) for name, kind in WRAPPERS.items()),
+    ("FloatValue", f"Float {P}.FloatValue.value {PATH}", known("FloatValue", wrapped(FLOAT))),
+    ("DoubleValue", f"Float {P}.DoubleValue.value {PATH}", known("DoubleValue", wrapped(DOUBLE))),
+    ("FloatValue without fields", "ok", known("FloatValue")),
+    ("Timestamp without fields", f"KnownShape {P}.Timestamp", known("Timestamp")),
+    ("Timestamp without nanos", f"KnownShape {P}.Timestamp", known("Timestamp", SECONDS)),
+    ("Timestamp with a third field", f"KnownShape {P}.Timestamp", known("Timestamp", SECONDS, NANOS, x(number=3))),
+    ("Timestamp with seconds twice", f"KnownShape {P}.Timestamp", known("Timestamp", SECONDS, SECONDS)),
+    ("Timestamp, the nanos first", "ok", known("Timestamp", NANOS, SECONDS)),
+    ("Timestamp with seconds of another number", f"KnownShape {P}.Timestamp", known("Timestamp", of("seconds", 3, INT64), NANOS)),
+    ("Timestamp with seconds of another name", f"KnownShape {P}.Timestamp", known("Timestamp", of("second", 1, INT64), NANOS)),
+    ("Timestamp with seconds of another type", f"KnownShape {P}.Timestamp", known("Timestamp", of("seconds", 1, SINT64), NANOS)),
+    ("Timestamp with lists", f"KnownShape {P}.Timestamp", known("Timestamp", of("seconds", 1, INT64, label=3), NANOS)),
+    ("Timestamp with nanos of another type", f"KnownShape {P}.Timestamp", known("Timestamp", SECONDS, of("nanos", 2, INT64))),
+    ("Timestamp with optional nanos", f"KnownShape {P}.Timestamp", known("Timestamp", SECONDS, of("nanos", 2, INT32, more=OPTIONAL))),
+    ("Timestamp with seconds in a oneof", f"KnownShape {P}.Timestamp", known("Timestamp", of("seconds", 1, INT64, more=FIRST_ONEOF), NANOS, inner=ONEOF)),
+    ("Timestamp with another JSON name", "ok", known("Timestamp", of("seconds", 1, INT64, json="s"), NANOS)),
+    ("Timestamp with a required field", f"BadField {P}.Timestamp.seconds", known("Timestamp", of("seconds", 1, INT64, label=2), NANOS)),
+    ("Timestamp with a field without a label", f"BadField {P}.Timestamp.nanos", known("Timestamp", SECONDS, of("nanos", 2, INT32, label=None))),
+    ("Duration with nanos of another number", f"KnownShape {P}.Duration", known("Duration", SECONDS, of("nanos", 3, INT32))),
+    ("FieldMask without a list", f"KnownShape {P}.FieldMask", known("FieldMask", of("paths", 1, STRING))),
+    ("FieldMask with a required field", f"KnownShape {P}.FieldMask", known("FieldMask", of("paths", 1, STRING, label=2))),
+    ("FieldMask of bytes", f"KnownShape {P}.FieldMask", known("FieldMask", of("paths", 1, BYTES, label=3))),
+    ("FieldMask with path", f"KnownShape {P}.FieldMask", known("FieldMask", of("path", 1, STRING, label=3))),
+    *((f"{name} of another type", f"KnownShape {P}.{name}", known(name, wrapped(FIXED64))) for name in WRAPPERS),
+    ("BoolValue without fields", f"KnownShape {P}.BoolValue", known("BoolValue")),
+    ("BoolValue with number 2", f"KnownShape {P}.BoolValue", known("BoolValue", value(BOOL))),
+    ("BoolValue with two fields", f"KnownShape {P}.BoolValue", known("BoolValue", wrapped(BOOL), x())),
+    ("BoolValue with a list", f"KnownShape {P}.BoolValue", known("BoolValue", wrapped(BOOL, label=3))),
+    ("Timestamp of another shape that nothing reaches", "ok", a_set(files=[other([message("Timestamp", [])], package=P)])),
+    ("Timestamp of another shape in another package", "ok", reach(".q.Timestamp", other([message("Timestamp", [])]))),
+    ("Timestamp of another shape in a message of the package google", f"KnownShape {P}.Timestamp", reach(f".{P}.Timestamp", other([message("protobuf", [], text(3, message("Timestamp", [])))], package="google"))),
+    # two faults of a message itself
+    ("proto2 before Any", f"Proto2 {P}.Any", known("Any", syntax="proto2")),
+    ("an edition before Any", f"Edition {P}.Any", known("Any", syntax="editions")),
+    ("proto2 before an extension", "Proto2 p.M", a_set(syntax=None, more=text(7, extension(".p.M")))),
+    ("Any before its extension", f"AnyType {P}.Any {PATH}", known("Any", more=text(7, extension(f".{P}.Any")))),
+    ("Struct before its message set", f"StructType {P}.Struct {PATH}", known("Struct", inner=MESSAGE_SET)),
+    ("an extension before a shape", f"Extension {P}.Timestamp", known("Timestamp", more=text(7, extension(f".{P}.Timestamp")))),
+    ("an edition before a shape", f"Edition {P}.Timestamp", known("Timestamp", syntax="editions")),
+    ("a shape before a field", f"KnownShape {P}.Timestamp", known("Timestamp", of("seconds", 0, FLOAT), NANOS)),
+    ("an extension before a float", "Extension p.M", a_set([x(FLOAT)], more=text(7, extension(".p.M")))),
+    ("proto2 before a group", "Proto2 p.M", a_set([x(GROUP)], syntax="proto2")),
+    # numbers, labels, types and oneofs of fields
+    ("field number 0", "BadField p.M.x", with_x(number=0)),
+    ("no field number", "BadField p.M.x", with_x(number=None)),
+    ("field number -1", "BadField p.M.x", with_x(number=-1)),
+    ("field number 1 again", "BadField p.M.x", with_x(number=1)),
+    ("field number 2", "ok", with_x(number=2)),
+    ("field number 19,000", "ok", with_x(number=19_000)),
+    ("field number 536,870,911", "ok", with_x(number=536_870_911)),
+    ("field number 536,870,912", "BadField p.M.x", with_x(number=536_870_912)),
+    ("field number 2,147,483,647", "BadField p.M.x", with_x(number=2_147_483_647)),
+    ("a number of a field that is not the one before", "BadField p.M.z", a_set([x(), of("y", 3, STRING), of("z", 2, STRING)])),
+    ("one number in two messages", "ok", a_set([x(MESSAGE, ".p.N")], [message("N", [x()])])),
+    ("no label", "BadField p.M.x", with_x(label=None)),
+    ("label 0", "BadField p.M.x", with_x(label=0)),
+    ("label 2", "BadField p.M.x", with_x(label=2)),
+    ("label 3", "ok", with_x(label=3)),
+    ("label 4", "BadField p.M.x", with_x(label=4)),
+    ("label -1", "BadField p.M.x", with_x(label=-1)),
+    ("no type", "BadField p.M.x", with_x(None)),
+    ("type 0", "BadField p.M.x", with_x(0)),
+    ("type 19", "BadField p.M.x", with_x(19)),
+    ("type -1", "BadField p.M.x", with_x(-1)),
+    ("each type of a number, a bool, a string and bytes", "ok", a_set([of(f"x{kind}", kind, kind) for kind in [*INTEGERS, BOOL, BYTES]])),
+    ("lists of each type of a number, a bool, a string and bytes", "ok", a_set([of(f"x{kind}", kind, kind, label=3) for kind in [*INTEGERS, BOOL, BYTES]])),
+    ("a member of a oneof", "ok", with_x(more=FIRST_ONEOF)),
+    ("an optional field in its oneof", "ok", with_x(more=FIRST_ONEOF + OPTIONAL)),
+    ("an optional field in no oneof", "ok", with_x(more=OPTIONAL)),
+    ("a oneof's index past the last", "BadField p.M.x", with_x(more=num(9, 1))),
+    ("the index of the second of two oneofs", "ok", a_set([x(more=num(9, 1))], inner=ONEOF + text(8, text(1, "u")))),
+    ("a oneof's index of -1", "BadField p.M.x", with_x(more=num(9, -1))),
+    ("a oneof's index without oneofs", "BadField p.M.x", a_set([x(more=FIRST_ONEOF)])),
+    ("a list in a oneof", "BadField p.M.x", with_x(label=3, more=FIRST_ONEOF)),
+    ("an optional list", "BadField p.M.x", with_x(label=3, more=OPTIONAL)),
+    ("a list, said not to be optional", "ok", with_x(label=3, more=num(17, 0))),
+    # types of fields
+    ("a group", "Group p.M.x", with_x(GROUP, ".p.M")),
+    ("groups of an unknown type", "Group p.M.x", with_x(GROUP, ".p.N", label=3)),
+    ("a double", f"Float p.M.x {PATH}", with_x(DOUBLE)),
+    ("a float", f"Float p.M.x {PATH}", with_x(FLOAT)),
+    ("floats", f"Float p.M.x {PATH}", with_x(FLOAT, label=3)),
+    ("an optional double", f"Float p.M.x {PATH}", with_x(DOUBLE, more=OPTIONAL)),
+    ("a float in a oneof", f"Float p.M.x {PATH}", with_x(FLOAT, more=FIRST_ONEOF)),
+    ("a message", "ok", with_x(MESSAGE, ".p.M")),
+    ("messages", "ok", with_x(MESSAGE, ".p.M", label=3)),
+    ("an enum", "ok", with_x(ENUM, ".p.E")),
+    ("enums", "ok", with_x(ENUM, ".p.E", label=3)),
+    ("an unknown message", "UnknownType p.M.x .p.N", with_x(MESSAGE, ".p.N")),
+    ("a message without its dot", "UnknownType p.M.x p.M", with_x(MESSAGE, "p.M")),
+    ("a message that is an enum", "UnknownType p.M.x .p.E", with_x(MESSAGE, ".p.E")),
+    ("a message without a name", "UnknownType p.M.x", with_x(MESSAGE)),
+    ("an unknown enum", "UnknownType p.M.x .p.F", with_x(ENUM, ".p.F")),
+    ("an enum without its dot", "UnknownType p.M.x p.E", with_x(ENUM, "p.E")),
+    ("an enum that is a message", "UnknownType p.M.x .p.M", with_x(ENUM, ".p.M")),
+    ("a string with an unknown type's name", "ok", with_x(STRING, ".p.N")),
+    # two faults of one field
+    ("a number before a group", "BadField p.M.x", with_x(GROUP, number=0)),
+    ("a label before a float", "BadField p.M.x", with_x(FLOAT, label=2)),
+    ("a number that came before, before an unknown type", "BadField p.M.x", with_x(MESSAGE, ".p.N", number=1)),
+    ("a oneof's index before an unknown enum", "BadField p.M.x", with_x(ENUM, ".p.F", more=num(9, 1))),
+    # two fields, and two messages
+    ("a float before an unknown type", f"Float p.M.x {PATH}", a_set([x(FLOAT), of("y", 3, MESSAGE, ".p.N")])),
+    ("an unknown type before a float", "UnknownType p.M.x .p.N", a_set([x(MESSAGE, ".p.N"), of("y", 3, FLOAT)])),
+    ("fields as declared, and not by number", f"Float p.M.x {PATH}", a_set([x(FLOAT, number=5), of("y", 3, MESSAGE, ".p.N")])),
+    ("a field before a message that an earlier one reaches", "UnknownType p.M.y .p.O", a_set([x(MESSAGE, ".p.N"), of("y", 3, MESSAGE, ".p.O")], [FLOATS])),
+    ("a message that nothing reaches", "ok", a_set(messages=[FLOATS])),
+    ("a nested message that nothing reaches", "ok", a_set(inner=text(3, FLOATS))),
+    ("a float in another file that nothing reaches", "ok", a_set(files=[other([FLOATS])])),
+    ("the input of a method without an annotation", "ok", by_methods(method(), put(".p.N", http=b""), messages=[FLOATS])),
+    ("a message that a field reaches", f"Float p.N.f {PATH}", a_set([x(MESSAGE, ".p.N")], [FLOATS])),
+    ("a message that a list reaches", f"Float p.N.f {PATH}", a_set([x(MESSAGE, ".p.N", label=3)], [FLOATS])),
+    ("a nested message that a field reaches", f"Float p.M.N.f {PATH}", a_set([x(MESSAGE, ".p.M.N")], inner=text(3, FLOATS))),
+    ("a message of another file that a field reaches", f"Float q.N.f {PATH}", reach(".q.N", other([FLOATS]))),
+    ("a message without a package", f"Float N.f {PATH}", reach(".N", other([FLOATS], package=None))),
+    ("the output", f"Float p.N.f {PATH}", by_methods(method(response=".p.N"), messages=[FLOATS])),
+    ("a message that leads back to itself", "ok", a_set([x(MESSAGE, ".p.N")], [message("N", [x(MESSAGE, ".p.M")])])),
+    ("the input before the output", f"Float p.N.f {PATH}", by_methods(method(request=".p.N", response=".p.O"), messages=[message("O", [x(GROUP)]), FLOATS])),
+    ("the output before what the input reaches", "Group p.O.x", by_methods(method(response=".p.O"), fields=[x(MESSAGE, ".p.N")], messages=[message("O", [x(GROUP)]), FLOATS])),
+    ("the second method's input before what the first's reaches", "Group p.O.x", by_methods(method(), put(".p.O"), fields=[x(MESSAGE, ".p.N")], messages=[message("O", [x(GROUP)]), FLOATS])),
+    ("the first method's output before the second's input", f"Float p.N.f {PATH}", by_methods(method(response=".p.N"), put(".p.O"), messages=[message("O", [x(GROUP)]), FLOATS])),
+    ("a later field's message before what an earlier one's reaches", "Group p.O.x", a_set([x(MESSAGE, ".p.K"), of("y", 3, MESSAGE, ".p.O")], [FLOATS, message("K", [x(MESSAGE, ".p.N")]), message("O", [x(GROUP)])])),
+    ("an earlier field's message before a later one's", f"Float p.N.f {PATH}", a_set([x(MESSAGE, ".p.N"), of("y", 3, MESSAGE, ".p.O")], [message("O", [x(GROUP)]), FLOATS])),
+    ("messages by the queue, and not as declared", "Group p.O.x", a_set([x(MESSAGE, ".p.O"), of("y", 3, MESSAGE, ".p.N")], [FLOATS, message("O", [x(GROUP)])])),
+    # the method through which a message joined
+    ("a message that both methods' messages reach", f"Float p.N.f {PATH}", by_methods(method(), put(".p.K"), fields=[x(MESSAGE, ".p.N")], messages=[message("K", [x(MESSAGE, ".p.N")]), FLOATS])),
+    ("a message that the second method's message reaches", "Float p.N.f /p.S/Put", by_methods(method(), put(".p.K"), messages=[message("K", [x(MESSAGE, ".p.N")]), FLOATS])),
+    ("the second method's input, which the first one's message reaches", "Float p.N.f /p.S/Put", by_methods(method(), put(".p.N"), fields=[x(MESSAGE, ".p.N")], messages=[FLOATS])),
+    ("the input of both methods", f"Float p.N.f {PATH}", by_methods(method(request=".p.N"), put(".p.N"), messages=[FLOATS])),
+    ("the second method's output, which the third one takes", "Float p.N.f /p.S/Put", by_methods(method(), put(response=".p.N"), method("Del", ".p.N"), messages=[FLOATS])),
+    ("a message that an earlier place in the queue reaches", f"Float p.N.f {PATH}", by_methods(method(response=".p.K"), put(".p.L"), messages=[message("K", [x(MESSAGE, ".p.N")]), message("L", [x(MESSAGE, ".p.N")]), FLOATS])),
+    ("the nearer of two ways", "Float p.N.f /p.S/Put", by_methods(method(), put(".p.L"), fields=[x(MESSAGE, ".p.K")], messages=[message("K", [x(MESSAGE, ".p.N")]), message("L", [x(MESSAGE, ".p.N")]), FLOATS])),
+]
+
+NULL_VALUE = other([], package=P, more=text(5, enum("NullValue", ("NULL_VALUE", 0))))
+TEXT_TO_INT = (key(), value())
+BAD_ENUM = enum("E", ("A", 1))
+
+ENUMS_MAPS_AND_KEYS = [
+    # enums
+    ("an enum without values", "BadEnum p.E", enum_set()),
+    ("an enum with the number 0", "ok", enum_set(("A", 0))),
+    ("a number that is absent", "ok", a_set([x(ENUM, ".p.E")], more=text(5, text(1, "E") + text(2, text(1, "A"))))),
+    ("a first number of 1", "BadEnum p.E", enum_set(("A", 1), ("B", 0))),
+    ("a first number of -1", "BadEnum p.E", enum_set(("A", -1))),
+    ("a later number below 0", "ok", enum_set(("A", 0), ("B", -1))),
+    ("two names of one number", "ok", enum_set(("A", 0), ("B", 0))),
+    ("a name twice", "BadEnum p.E", enum_set(("A", 0), ("B", 1), ("A", 2))),
+    ("a name and a number twice", "BadEnum p.E", enum_set(("A", 0), ("A", 0))),
+    ("names that differ by case", "ok", enum_set(("A", 0), ("a", 1))),
+    ("an enum that no field names", "ok", a_set(more=text(5, BAD_ENUM))),
+    ("an enum of a message that nothing reaches", "ok", a_set(messages=[message("N", [x(ENUM, ".p.E")])], more=text(5, BAD_ENUM))),
+    ("a nested enum", "BadEnum p.M.E", a_set([x(ENUM, ".p.M.E")], inner=text(4, BAD_ENUM))),
+    ("an enum of another file", "BadEnum q.E", a_set([x(ENUM, ".q.E")], files=[other([], more=text(5, BAD_ENUM))])),
+    ("a list of an enum", "BadEnum p.E", a_set([x(ENUM, ".p.E", label=3)], more=text(5, BAD_ENUM))),
+    ("an enum in a oneof", "BadEnum p.E", a_set([x(ENUM, ".p.E", more=FIRST_ONEOF)], inner=ONEOF, more=text(5, BAD_ENUM))),
+    ("NullValue", f"StructType p.M.x {PATH}", a_set([x(ENUM, f".{P}.NullValue")], files=[NULL_VALUE])),
+    ("NullValue of another package", "ok", a_set([x(ENUM, ".p.NullValue")], more=text(5, enum("NullValue", ("A", 0))))),
+    ("NullValue that no field names", "ok", a_set(files=[NULL_VALUE])),
+    ("NullValue before its values", f"StructType p.M.x {PATH}", a_set([x(ENUM, f".{P}.NullValue")], files=[other([], package=P, more=text(5, enum("NullValue")))])),
+    ("NullValue that is not declared", f"UnknownType p.M.x .{P}.NullValue", a_set([x(ENUM, f".{P}.NullValue")])),
+    ("a field's label before its enum", "BadField p.M.x", a_set([x(ENUM, ".p.E", label=2)], more=text(5, BAD_ENUM))),
+    ("an enum before the next field", "BadEnum p.E", a_set([x(ENUM, ".p.E"), of("y", 3, FLOAT)], more=text(5, BAD_ENUM))),
+    ("a field before the next one's enum", f"Float p.M.x {PATH}", a_set([x(FLOAT), of("y", 3, ENUM, ".p.E")], more=text(5, BAD_ENUM))),
+    ("the enum of the earlier field", "BadEnum p.F", a_set([x(ENUM, ".p.F"), of("y", 3, ENUM, ".p.E")], more=text(5, BAD_ENUM) + text(5, enum("F")))),
+    # entries of maps
+    ("a map", "ok", map_of(*TEXT_TO_INT)),
+    ("a map, the value first", "ok", map_of(value(), key())),
+    *((f"a map whose keys have type {kind}", "ok", map_of(key(kind), value())) for kind in [*INTEGERS, BOOL, STRING]),
+    *((f"a map whose keys have type {kind}", "BadField p.M.x", map_of(key(kind), value())) for kind in [None, 0, DOUBLE, FLOAT, GROUP, MESSAGE, BYTES, ENUM, 19]),
+    *((f"a map whose values have type {kind}", "ok", map_of(key(), value(kind))) for kind in [*INTEGERS, BOOL, STRING, BYTES]),
+    ("a map of messages", "ok", map_of(key(BOOL), value(MESSAGE, ".p.M"))),
+    ("a map of enums", "ok", map_of(key(), value(ENUM, ".p.E"), more=text(5, E))),
+    ("values of no type", "BadField p.M.x", map_of(key(), value(None))),
+    ("values of type 19", "BadField p.M.x", map_of(key(), value(19))),
+    ("an entry without fields", "BadField p.M.x", map_of()),
+    ("an entry without a value", "BadField p.M.x", map_of(key())),
+    ("an entry without a key", "BadField p.M.x", map_of(value())),
+    ("an entry with two keys", "BadField p.M.x", map_of(key(), key())),
+    ("an entry with two values", "BadField p.M.x", map_of(value(), value())),
+    ("an entry with a third field", "BadField p.M.x", map_of(*TEXT_TO_INT, x(number=3))),
+    ("a key of another name", "BadField p.M.x", map_of(key(name="k"), value())),
+    ("a value of another name", "BadField p.M.x", map_of(key(), value(name="v"))),
+    ("a key and a value whose names are exchanged", "BadField p.M.x", map_of(key(name="value"), value(name="key"))),
+    ("a key of another number", "BadField p.M.x", map_of(key(number=3), value())),
+    ("a value of another number", "BadField p.M.x", map_of(key(), value(number=3))),
+    ("a key and a value whose numbers are exchanged", "BadField p.M.x", map_of(key(number=2), value(number=1))),
+    ("a key without a label", "BadField p.M.x", map_of(key(label=None), value())),
+    ("a required key", "BadField p.M.x", map_of(key(label=2), value())),
+    ("a list of keys", "BadField p.M.x", map_of(key(label=3), value())),
+    ("a required value", "BadField p.M.x", map_of(key(), value(label=2))),
+    ("a list of values", "BadField p.M.x", map_of(key(), value(label=3))),
+    ("an optional key", "BadField p.M.x", map_of(key(more=OPTIONAL), value())),
+    ("an optional value", "BadField p.M.x", map_of(key(), value(more=OPTIONAL))),
+    ("a key in a oneof", "BadField p.M.x", map_of(key(more=FIRST_ONEOF), value())),
+    ("a value in a oneof", "BadField p.M.x", map_of(key(), value(more=FIRST_ONEOF))),
+    ("a map in a oneof", "BadField p.M.x", map_of(*TEXT_TO_INT, field_more=FIRST_ONEOF, inner=ONEOF)),
+    ("a map that is optional", "BadField p.M.x", map_of(*TEXT_TO_INT, field_more=OPTIONAL)),
+    ("a map of a number that came before", "BadField p.M.x", map_of(*TEXT_TO_INT, number=1)),
+    # values of maps
+    ("a map of groups", "Group p.M.x", map_of(key(), value(GROUP, ".p.M"))),
+    ("a map of floats", f"Float p.M.x {PATH}", map_of(key(), value(FLOAT))),
+    ("a map of doubles", f"Float p.M.x {PATH}", map_of(key(), value(DOUBLE))),
+    ("a map of an unknown message", "UnknownType p.M.x .p.N", map_of(key(), value(MESSAGE, ".p.N"))),
+    ("a map of an unknown enum", "UnknownType p.M.x .p.E", map_of(key(), value(ENUM, ".p.E"))),
+    ("a map of NullValue", f"StructType p.M.x {PATH}", a_set([x(MESSAGE, ".p.M.XEntry", label=3)], inner=text(3, entry(key(), value(ENUM, f".{P}.NullValue"))), files=[NULL_VALUE])),
+    ("a map of an enum", "BadEnum p.E", map_of(key(), value(ENUM, ".p.E"), more=text(5, BAD_ENUM))),
+    ("a map of a message that has a float", f"Float p.N.f {PATH}", map_of(key(), value(MESSAGE, ".p.N"), messages=[FLOATS])),
+    ("a map of Any", f"AnyType {P}.Any {PATH}", a_set([x(MESSAGE, ".p.M.XEntry", label=3)], inner=text(3, entry(key(), value(MESSAGE, f".{P}.Any"))), files=[other([message("Any", [])], package=P)])),
+    ("the key's type before the value's", "BadField p.M.x", map_of(key(BYTES), value(FLOAT))),
+    ("a map's value before the next field", f"Float p.M.x {PATH}", a_set([x(MESSAGE, ".p.M.XEntry", label=3), of("y", 3, GROUP)], inner=text(3, entry(key(), value(FLOAT))))),
+    ("a field before a map's value", "Group p.M.x", a_set([x(GROUP), of("y", 3, MESSAGE, ".p.M.XEntry", 3)], inner=text(3, entry(key(), value(FLOAT))))),
+    ("the values of a map before the message of a later field", f"Float p.N.f {PATH}", a_set([x(MESSAGE, ".p.M.XEntry", label=3), of("y", 3, MESSAGE, ".p.O")], [message("O", [x(GROUP)]), FLOATS], text(3, entry(key(), value(MESSAGE, ".p.N"))))),
+    # entries are not reached through their map
+    ("an entry in a file of proto2", "ok", reach(".q.XEntry", other([entry(*TEXT_TO_INT)], syntax="proto2"), label=3)),
+    ("an entry that is extended", "ok", map_of(*TEXT_TO_INT, more=text(7, extension(".p.M.XEntry")))),
+    ("an entry whose two fields have one JSON name", "ok", map_of(key(json="value"), value())),
+    ("an entry that is no map's", "ok", a_set(inner=text(3, entry(key(FLOAT), value(FLOAT))))),
+    ("an entry beside the message", "ok", a_set([x(MESSAGE, ".p.XEntry", label=3)], [entry(*TEXT_TO_INT)])),
+    ("an entry beside the message, of floats", f"Float p.M.x {PATH}", a_set([x(MESSAGE, ".p.XEntry", label=3)], [entry(key(), value(FLOAT))])),
+    ("an entry as one message", f"Float p.M.XEntry.value {PATH}", map_of(key(), value(FLOAT), label=1)),
+    ("an entry as one message, of no lawful map", "ok", map_of(key(BYTES), value(), label=1)),
+    ("an entry as one message in a file of proto2", "Proto2 q.XEntry", reach(".q.XEntry", other([entry(*TEXT_TO_INT)], syntax="proto2"))),
+    ("an entry that is the input", f"Float p.M.XEntry.value {PATH}", by_methods(method(request=".p.M.XEntry"), inner=text(3, entry(key(), value(FLOAT))))),
+    ("an entry without its option", f"Float p.M.XEntry.value {PATH}", a_set([x(MESSAGE, ".p.M.XEntry", label=3)], inner=text(3, message("XEntry", [key(), value(FLOAT)])))),
+    ("an entry said not to be one", f"Float p.M.XEntry.value {PATH}", a_set([x(MESSAGE, ".p.M.XEntry", label=3)], inner=text(3, message("XEntry", [key(), value(FLOAT)], text(7, num(7, 0)))))),
+    ("an entry of a map and as one message in a file of proto2", "Proto2 q.XEntry", a_set([x(MESSAGE, ".q.XEntry", label=3), of("y", 3, MESSAGE, ".q.XEntry")], files=[other([entry(*TEXT_TO_INT)], syntax="proto2")])),
+    # names and JSON names
+    ("names that differ", "ok", pair("x", "y")),
+    ("one name twice", "SameJsonName p.M user_id", pair("user_id", "y")),
+    ("a name that is an earlier JSON name", "SameJsonName p.M userId", pair("userId", "y")),
+    ("a JSON name that is an earlier one", "SameJsonName p.M userId", pair("x", "userId")),
+    ("a JSON name that is an earlier name", "SameJsonName p.M user_id", pair("x", "user_id")),
+    ("a JSON name that is its own name", "ok", pair("x", "x")),
+    ("a given JSON name in place of that of the name", "ok", pair("userId", "y", "user_id", "z")),
+    ("a given JSON name that is an earlier given one", "SameJsonName p.M z", pair("x", "z", "user_id", "z")),
+    ("names that differ by case alone", "ok", pair("Ab", None, "ab")),
+    ("the name before the JSON name", "SameJsonName p.M userId", pair("userId", "user_id")),
+    ("the earlier of two fields", "SameJsonName p.M a", a_set([of("a", 2, STRING), of("b", 3, STRING), of("c", 4, STRING, json="a"), of("d", 5, STRING, json="b")])),
+    ("the first field that shares a name, and not the first that is shared", "SameJsonName p.M b", a_set([of("a", 2, STRING), of("b", 3, STRING), of("c", 4, STRING, json="b"), of("d", 5, STRING, json="a")])),
+    ("two empty JSON names", "SameJsonName p.M", pair("x", "", "user_id", "")),
+    ("an empty JSON name", "ok", pair("x", "")),
+    ("an underscore before a lower-case letter", "SameJsonName p.M aB", pair("aB", "x", "a_b")),
+    ("two underscores before a lower-case letter", "SameJsonName p.M aB", pair("aB", "x", "a__b")),
+    ("an underscore at the front", "SameJsonName p.M A", pair("A", "x", "_a")),
+    ("an underscore before a capital letter", "SameJsonName p.M aB", pair("aB", "x", "a_B")),
+    ("an underscore before a digit", "SameJsonName p.M a1", pair("a1", "x", "a_1")),
+    ("an underscore at the end", "SameJsonName p.M a", pair("a", "x", "a_")),
+    ("an underscore and nothing in its place", "ok", pair("ab", "x", "a_b")),
+    ("two JSON names of two names", "SameJsonName p.M aB", pair("a__b", None, "a_b")),
+    ("one name in two messages", "ok", a_set([x(MESSAGE, ".p.N")], [message("N", [x()])])),
+    ("names of a message that nothing reaches", "ok", a_set(messages=[message("N", [x(), x(number=3)])])),
+    ("names of a message that a field reaches", "SameJsonName p.N x", a_set([of("y", 2, MESSAGE, ".p.N")], [message("N", [x(), x(number=3)])])),
+    ("a number before the name", "BadField p.M.user_id", a_set([of("user_id", 2, STRING), of("user_id", 2, STRING)])),
+    ("a later field before an earlier name", f"Float p.M.y {PATH}", a_set([x(), x(number=3), of("y", 4, FLOAT)])),
+    ("names before the messages that the fields reach", "SameJsonName p.M x", a_set([x(MESSAGE, ".p.N"), x(number=3)], [FLOATS])),
+    ("a message that is taken before, before the names of the next", f"Float p.N.f {PATH}", by_methods(method(request=".p.N"), fields=[x(), x(number=3)], messages=[FLOATS])),
+]
+
+TABLES = [
+    ("NAMES_AND_SIZES", "How large a set may be, its names, and whether it has a route.", NAMES_AND_SIZES),
+    ("METHODS_AND_RULES", "Methods, and their rules.", METHODS_AND_RULES),
+    ("MESSAGES_AND_FIELDS", "Messages that methods reach, and their fields.", MESSAGES_AND_FIELDS),
+    ("ENUMS_MAPS_AND_KEYS", "Enums, entries of maps, and the names of fields in JSON.", ENUMS_MAPS_AND_KEYS),
+]
+
+# A set whose M has a field of each shape, in two oneofs of which one is an optional field's.
+SHAPES = fileset(
+    file(
+        messages=[
+            N,
+            message(
+                "M",
+                [
+                    field(),
+                    of("marks_of", 2, SINT64, label=3),
+                    of("tags", 3, STRING, label=3),
+                    of("stock", 4, MESSAGE, ".p.M.StockEntry", 3),
+                    of("lent", 5, BOOL, more=num(9, 0) + OPTIONAL),
+                    of("person", 6, BYTES, more=num(9, 1)),
+                    of("kind", 7, ENUM, ".p.E"),
+                    of("sequel", 8, MESSAGE, ".p.M"),
+                    of("other", 9, MESSAGE, ".p.N", 3),
+                    of("loose", 10, INT32, label=3, more=text(8, num(2, 0)), json="free"),
+                    of("card", 11, FIXED32, more=num(9, 1)),
+                    of("plain", 12, UINT64, more=OPTIONAL),
+                ],
+                text(3, entry(key(), value(ENUM, ".p.E"), name="StockEntry")) + text(8, text(1, "_lent")) + text(8, text(1, "owner")),
+            ),
+        ],
+        more=text(5, enum("D", ("Z", 0))) + text(5, E),
+    )
+)
+
+
+def quoted(line):
+    """The text of a line in a string of the language."""
+    out = []
+    for c in line:
+        if c in '\\"':
+            out.append("\\" + c)
+        elif " " <= c <= "~":
+            out.append(c)
+        else:
+            out.append(f"\\u{{{ord(c):x}}}")
+    return "".join(out)
+
+
+def rows(cases):
+    for label, answer, data in cases:
+        digits = data.hex() if isinstance(data, bytes) else data
+        assert "|" not in label + answer and "\n" not in label + answer, label
+        yield quoted(f"{label}|{answer}|{digits}") + "\\n\\\n"
+
+
+def made():
+    out = [
+        "//! Descriptor sets, as scripts/link_sets.py makes them.\n",
+        "//!\n",
+        "//! A line of a table has a label, the set's first fault or `ok`, and its bytes, between bars. The bytes\n",
+        "//! are pieces between blanks: hexadecimal digits, `DIGITS*N` for the same N times, and `DIGITS#N` for\n",
+        "//! the same N times, each with its number in four decimal digits behind it.\n",
+    ]
+    for name, says, cases in TABLES:
+        labels = [label for label, _, _ in cases]
+        assert len(set(labels)) == len(labels), [label for label in labels if labels.count(label) > 1]
+        out += [f"\n/// {says}\n#[rattlefmt::skip]\npub(super) const {name}: &str = \"\\\n", *rows(cases), '";\n']
+    out += [
+        "\n/// A set whose message M has a field of each shape.\n",
+        f'#[rattlefmt::skip]\npub(super) const SHAPES: &str = "{SHAPES.hex()}";\n',
+    ]
+    return "".join(out)
+
+
+def main():
+    data = made()
+    if "--check" not in sys.argv[1:]:
+        MADE.parent.mkdir(parents=True, exist_ok=True)
+        MADE.write_text(data)
+    elif not MADE.exists() or MADE.read_text() != data:
+        print(f"{MADE.relative_to(ROOT)} is not what scripts/link_sets.py makes")
+        return 1
+    return 0
+
+
+if __name__ == "__main__":
+    sys.exit(main())
