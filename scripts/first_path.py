@@ -18,7 +18,7 @@ from program import built  # noqa: E402
 from sample_sets import num, text  # noqa: E402
 
 USAGE, READ, WRITE = "usage\n", "read fault\n", "write fault\n"
-CUT, NOT_BUILT, LONG = ("descriptors: Wire at 0 Short\n", "descriptors: not built\n", "descriptors: TooLong\n")
+CUT, NO_ROUTE, LONG = ("descriptors: Wire at 0 Short\n", "descriptors: NoRoute set\n", "descriptors: TooLong\n")
 
 
 def frame(payload):
@@ -48,7 +48,7 @@ def rows(folder):
     yield "a target of 16,384 bytes", ["bind", items, "GET", long], None, "", 0
     for label, name, line, status in [
         ("the set without its last byte", "short.bin", CUT, 3),
-        ("an empty set", "empty.bin", NOT_BUILT, 3),
+        ("an empty set", "empty.bin", NO_ROUTE, 3),
         ("a set of 16,777,216 bytes", "edge.bin", "", 0),
         ("a set of 16,777,217 bytes", "long.bin", LONG, 3),
         ("a set of 17 MiB", "longer.bin", LONG, 3),

@@ -7,16 +7,17 @@ use Rattle.descriptor_set.specs.SetReading.{set_reading}
 use Rattle.descriptor_set.specs.declared.fault.SetFault.TheVariants as unread
 use Rattle.gateway_run.specs.Commands.{BindWords}
 use Rattle.gateway_run.specs.DescriptorLines.{descriptor_line}
+use Rattle.gateway_run.specs.OneRoute.{HasRoute, OneRoute, one_route}
 use Rattle.gateway_run.specs.Outcomes.{AnswersTold, Gives, IsLine, IsOutput, IsRefusedBy, Ran, refusal_line, stop_line, stop_status}
 use Rattle.gateway_run.specs.RequestMeaning.{IsPrinted, IsRefusal}
-use Rattle.gateway_run.specs.ServedSet.{Declares, IsUnserved}
-use Rattle.gateway_run.specs.declared.api.Api.{Api}
+use Rattle.gateway_run.specs.ServedSet.{Declares, IsUnserved, Serves}
 use Rattle.gateway_run.specs.declared.descriptor_fault.DescriptorFault.{DescriptorFault}
 use Rattle.gateway_run.specs.declared.descriptor_fault.DescriptorFault.TheVariants as faults
 use Rattle.gateway_run.specs.declared.refusal.Refusal.{Refusal}
 use Rattle.gateway_run.specs.declared.status.Stop.{Stop}
 use Rattle.gateway_run.specs.declared.status.Stop.TheVariants as stop
 use Rattle.gateway_run.specs.declared.status.Status.TheVariants as status
+use Rattle.schema_link.specs.declared.api.Api.{Api}
 
 -- ---- the front of a file that is longer than a set may be is too
 
@@ -45,13 +46,13 @@ reading_front file bytes e = pick (nat_le (length file) 16777217) (le_true (leng
         too_long bytes (longer (length bytes) (omega (arith, size))) ∙ sym (too_long file (longer (length file) (omega (arith, long))))
 
 file_declares : (file bytes : List ℕ) (api : Api) → bytes ≡ take 16777217 file → Declares bytes api → Declares file api
-file_declares file bytes api e d = record { set = d.set; read = sym (reading_front file bytes e) ∙ d.read; served = d.served }
+file_declares file bytes api e d = record { set = d.set; read = sym (reading_front file bytes e) ∙ d.read; linked = d.linked }
 
 file_unserved : (file bytes : List ℕ) (f : DescriptorFault) → bytes ≡ take 16777217 file → IsUnserved bytes f → IsUnserved file f
 file_unserved file bytes (faults.Wire w) e h = sym (reading_front file bytes e) ∙ h
 file_unserved file bytes (faults.NotUtf8 place) e h = sym (reading_front file bytes e) ∙ h
 file_unserved file bytes faults.TooLong e h = sym (reading_front file bytes e) ∙ h
-file_unserved file bytes faults.NotBuilt e h = record { set = h.set; read = sym (reading_front file bytes e) ∙ h.read; nothing = h.nothing }
+file_unserved file bytes (faults.Link kind name second) e h = record { set = h.set; read = sym (reading_front file bytes e) ∙ h.read; refused = h.refused }
 
 -- ---- each way to end
 
@@ -59,13 +60,16 @@ unserved_told : (told : Option (List ℕ)) (bytes : List ℕ) (f : DescriptorFau
 unserved_told None bytes f e h = tt
 unserved_told (Some file) bytes f e h = file_unserved file bytes f e h
 
-refused_told : (told : Option (List ℕ)) (bytes : List ℕ) (c : BindWords) (r : Refusal) (api : Api) → IfSome told (λ file. bytes ≡ take 16777217 file) → Declares bytes api → IsRefusal api c.method c.target r → IfSome told (λ file. IsRefusedBy file c r)
-refused_told None bytes c r api f d i = tt
-refused_told (Some file) bytes c r api f d i = record { api = api; declares = file_declares file bytes api f d; refused = i }
+file_serves : (file bytes : List ℕ) (route : OneRoute) → bytes ≡ take 16777217 file → Serves bytes route → Serves file route
+file_serves file bytes route e s = record { api = s.api; declares = file_declares file bytes s.api e s.declares; route_is = s.route_is }
 
-output_told : (told : Option (List ℕ)) (bytes : List ℕ) (c : BindWords) (out : List ℕ) (api : Api) → IfSome told (λ file. bytes ≡ take 16777217 file) → Declares bytes api → IsPrinted api c.method c.target out → IfSome told (λ file. IsOutput file c out)
-output_told None bytes c out api f d p = tt
-output_told (Some file) bytes c out api f d p = record { api = api; declares = file_declares file bytes api f d; printed = p }
+refused_told : (told : Option (List ℕ)) (bytes : List ℕ) (c : BindWords) (r : Refusal) (route : OneRoute) → IfSome told (λ file. bytes ≡ take 16777217 file) → Serves bytes route → IsRefusal route c.method c.target r → IfSome told (λ file. IsRefusedBy file c r)
+refused_told None bytes c r route f s i = tt
+refused_told (Some file) bytes c r route f s i = record { route = route; serves = file_serves file bytes route f s; refused = i }
+
+output_told : (told : Option (List ℕ)) (bytes : List ℕ) (c : BindWords) (out : List ℕ) (route : OneRoute) → IfSome told (λ file. bytes ≡ take 16777217 file) → Serves bytes route → IsPrinted route c.method c.target out → IfSome told (λ file. IsOutput file c out)
+output_told None bytes c out route f s p = tt
+output_told (Some file) bytes c out route f s p = record { route = route; serves = file_serves file bytes route f s; printed = p }
 
 -- a set that is not linked
 pub link_stops : {A B : Type 0} (G : A → Type 0) (H : B → Type 0) (R : Refusal → Type 0) (F : Type 0) (told : Option (List ℕ)) (bytes : List ℕ) → IfSome told (λ file. bytes ≡ take 16777217 file) → (e : Stop)
@@ -77,17 +81,23 @@ link_stops G H R F told bytes f stop.WriteFault g = absurd g
 link_stops G H R F told bytes f stop.NoMemory g = tt
 link_stops G H R F told bytes f (stop.Refused r) g = absurd g
 
--- what a request over what a set serves gives, said of the file
-pub bound_gives : {Z : Type 0} (F : Type 0) (told : Option (List ℕ)) (bytes : List ℕ) (c : BindWords) (api : Api) → IfSome told (λ file. bytes ≡ take 16777217 file) → Declares bytes api → (r : Result (Vec ℕ Z) Stop)
-    → Gives (λ (out : Vec ℕ Z). IsPrinted api c.method c.target out.items) (λ _. ⊥) (IsRefusal api c.method c.target) ⊥ r
+-- what a request for a route gives, said of the file
+route_gives : {Z : Type 0} (F : Type 0) (told : Option (List ℕ)) (bytes : List ℕ) (c : BindWords) (route : OneRoute) → IfSome told (λ file. bytes ≡ take 16777217 file) → Serves bytes route → (r : Result (Vec ℕ Z) Stop)
+    → Gives (λ (out : Vec ℕ Z). IsPrinted route c.method c.target out.items) (λ _. ⊥) (IsRefusal route c.method c.target) ⊥ r
     → Gives (λ (out : Vec ℕ Z). IfSome told (λ file. IsOutput file c out.items)) (λ q. IfSome told (λ file. IsUnserved file q)) (λ q. IfSome told (λ file. IsRefusedBy file c q)) F r
-bound_gives F told bytes c api f d (Ok out) g = output_told told bytes c out.items api f d g
-bound_gives F told bytes c api f d (Err stop.Usage) g = absurd g
-bound_gives F told bytes c api f d (Err (stop.Descriptors fault)) g = absurd g
-bound_gives F told bytes c api f d (Err stop.ReadFault) g = absurd g
-bound_gives F told bytes c api f d (Err stop.WriteFault) g = absurd g
-bound_gives F told bytes c api f d (Err stop.NoMemory) g = tt
-bound_gives F told bytes c api f d (Err (stop.Refused r)) g = refused_told told bytes c r api f d g
+route_gives F told bytes c route f s (Ok out) g = output_told told bytes c out.items route f s g
+route_gives F told bytes c route f s (Err stop.Usage) g = absurd g
+route_gives F told bytes c route f s (Err (stop.Descriptors fault)) g = absurd g
+route_gives F told bytes c route f s (Err stop.ReadFault) g = absurd g
+route_gives F told bytes c route f s (Err stop.WriteFault) g = absurd g
+route_gives F told bytes c route f s (Err stop.NoMemory) g = tt
+route_gives F told bytes c route f s (Err (stop.Refused r)) g = refused_told told bytes c r route f s g
+
+-- what a request over what a set serves gives, said of the file
+pub bound_gives : {Z : Type 0} (F : Type 0) (told : Option (List ℕ)) (bytes : List ℕ) (c : BindWords) (api : Api) → IfSome told (λ file. bytes ≡ take 16777217 file) → Declares bytes api → HasRoute api → (r : Result (Vec ℕ Z) Stop)
+    → ((route : OneRoute) → one_route api ≡ Some route → Gives (λ (out : Vec ℕ Z). IsPrinted route c.method c.target out.items) (λ _. ⊥) (IsRefusal route c.method c.target) ⊥ r)
+    → Gives (λ (out : Vec ℕ Z). IfSome told (λ file. IsOutput file c out.items)) (λ q. IfSome told (λ file. IsUnserved file q)) (λ q. IfSome told (λ file. IsRefusedBy file c q)) F r
+bound_gives F told bytes c api f d h r g = route_gives F told bytes c h.route f (record { api = api; declares = d; route_is = h.route_is }) r (g h.route h.route_is)
 
 -- ---- what a status says
 

@@ -1,10 +1,7 @@
 pub mod AnswerLemmas
 pub mod BindLemmas
-pub mod CamelLemmas
-pub mod DistinctLemmas
 pub mod FrontLemmas
 pub mod LineLemmas
-pub mod LinkLemmas
 pub mod MessageLemmas
-pub mod NameLemmas
 pub mod PathLemmas
+pub mod RouteLemmas

@@ -1,10 +1,12 @@
 -- Bytes that are written one after another.
-use Rattle.std.proofs.Common.{◌≡◌, ◌≤◌, ◌+◌, ◌++◌, ℕ, suc, List, [], ◌∷◌, length, take, Option, Some, None, sym, ap, ◌∙◌, subst, arith, append_assoc, length-append, Bor, Result, Ok, Err, OnErr}
+use Rattle.std.proofs.Common.{◌≡◌, ◌≤◌, ◌+◌, ◌==◌, ◌++◌, ℕ, suc, false, List, [], ◌∷◌, length, take, Option, Some, None, sym, ap, ◌∙◌, subst, arith, append_assoc, length-append, Bor, Result, Ok, Err, OnErr}
 use Rattle.std.specs.List.{flat_map}
 use Rattle.std.specs.Prelude.{codes, decimal}
-use Rattle.gateway_run.specs.DescriptorLines.{descriptor_line}
+use Rattle.gateway_run.specs.DescriptorLines.{descriptor_line, is_not_built, link_text}
 use Rattle.gateway_run.specs.declared.descriptor_fault.DescriptorFault.{DescriptorFault}
 use Rattle.gateway_run.specs.declared.descriptor_fault.DescriptorFault.TheVariants.{NotUtf8}
+use Rattle.schema_link.specs.LinkFaults.{kind_text}
+use Rattle.schema_link.specs.declared.fault.LinkKind.{LinkKind}
 use Rattle.std.proofs.lemmas.List.{take-append-le}
 use Rattle.gate_world.specs.Causes.{Rose}
 use Rattle.gate_world.specs.Sinks.{Gains, GainsPrefix}
@@ -45,3 +47,12 @@ prefix_on_err (Err w) a b c xs t ts all e x g p =
 -- the line of a text that is not UTF-8, by its digits
 pub not_utf8_line : (f : DescriptorFault) (place : ℕ) (digits : List ℕ) → f ≡ NotUtf8 place → digits ≡ decimal place → descriptor_line f ≡ codes "descriptors: NotUtf8 at " ++ (digits ++ codes "\n")
 not_utf8_line f place digits e d = ap descriptor_line e ∙ ap (λ z. codes "descriptors: NotUtf8 at " ++ (z ++ codes "\n")) (sym d)
+
+-- the line of a fault with two names, by the texts that are written
+pub two_names_line : (kind : LinkKind) (name second : List ℕ) (k n s : List ℕ) → is_not_built kind ≡ false → (length second == 0) ≡ false → k ≡ kind_text kind → n ≡ name → s ≡ second
+    → codes "descriptors: " ++ (link_text kind name second ++ codes "\n") ≡ codes "descriptors: " ++ (k ++ (codes " " ++ (n ++ (codes " " ++ (s ++ codes "\n")))))
+two_names_line kind name [] k n s b c ek en es = absurd (cc (c))
+two_names_line kind name (d ∷ ds) k n s b c ek en es =
+    rw (b, ek, en, es)
+    (ap (λ z. codes "descriptors: " ++ z) (append_assoc (kind_text kind) (codes " " ++ (name ++ (codes " " ++ (d ∷ ds)))) (codes "\n")
+    ∙ ap (λ z. kind_text kind ++ (codes " " ++ z)) (append_assoc name (codes " " ++ (d ∷ ds)) (codes "\n"))))

@@ -4,7 +4,7 @@ use Rattle.std.proofs.Math.Seq.{drop-append-add}
 use Rattle.std.proofs.lemmas.List.{append-nil, take_more}
 use Rattle.std.specs.List.{AllByRecursion}
 use Rattle.gateway_run.specs.PathPieces.{HasNoSlash, IsPieceEnd, BeginsWithPiece, TakesPiece, EachTakesPiece, TakeAll, piece_span}
-use Rattle.gateway_run.specs.ServedSet.{is_one_segment, IsTemplateOf}
+use Rattle.schema_link.specs.ServedTemplates.{is_one_segment, IsTemplateOf}
 use Rattle.http_rules.proofs.RangeLemmas.{range_within}
 use Rattle.http_rules.proofs.SpanLemmas.{literal_no_slash, literal_all, parts_segments, spans_inside}
 use Rattle.http_rules.specs.PercentDecoding.{variable_segments}

@@ -5,12 +5,14 @@ pub use Rattle.gate_world.specs.Sinks
 pub use Rattle.http_rules.specs.Template
 pub use Rattle.http_rules.specs.TemplateMatch
 pub use Rattle.http_rules.specs.PercentDecoding
+pub use Rattle.schema_link.specs.LinkFaults
+pub use Rattle.schema_link.specs.ServedTemplates
+pub use Rattle.schema_link.specs.SetApi
 pub mod Commands
 pub mod CommandViews
-pub mod JsonNames
-pub mod LinkedSet
+pub mod OneRoute
 pub mod ServedSet
-pub mod LinkedApi
+pub mod ServedView
 pub mod BoundMessage
 pub mod PathPieces
 pub mod RequestMeaning

@@ -2,10 +2,10 @@
 use Rattle.std.specs.Prelude.{◌≡◌, ℕ, List, [], codes, Option, Some, None, IfSome, Result, Ok, Err}
 use Rattle.gate_world.specs.Sinks.{Gains, GainsPrefix}
 use Rattle.gateway_run.specs.Commands.{BindWords}
+use Rattle.gateway_run.specs.OneRoute.{OneRoute}
 use Rattle.gateway_run.specs.RequestMeaning.{IsPrinted, IsRefusal}
 use Rattle.gateway_run.specs.DescriptorLines.{descriptor_line}
-use Rattle.gateway_run.specs.ServedSet.{Declares, IsUnserved}
-use Rattle.gateway_run.specs.declared.api.Api.{Api}
+use Rattle.gateway_run.specs.ServedSet.{IsUnserved, Serves}
 use Rattle.gateway_run.specs.declared.descriptor_fault.DescriptorFault.{DescriptorFault}
 use Rattle.gateway_run.specs.declared.refusal.Refusal.{Refusal}
 use Rattle.gateway_run.specs.declared.refusal.Refusal.TheVariants as refusals
@@ -16,15 +16,15 @@ use Rattle.gateway_run.specs.declared.status.Stop.TheVariants as stop
 
 -- what a command prints over a set's file
 pub record IsOutput (file : List ℕ) (c : BindWords) (out : List ℕ) : Type 0 where
-  pub api : Api
-  pub declares : Declares file api
-  pub printed : IsPrinted api c.method c.target out
+  pub route : OneRoute
+  pub serves : Serves file route
+  pub printed : IsPrinted route c.method c.target out
 
 -- its request is refused
 pub record IsRefusedBy (file : List ℕ) (c : BindWords) (r : Refusal) : Type 0 where
-  pub api : Api
-  pub declares : Declares file api
-  pub refused : IsRefusal api c.method c.target r
+  pub route : OneRoute
+  pub serves : Serves file route
+  pub refused : IsRefusal route c.method c.target r
 
 -- the line of a refusal
 abbrev pub refusal_line : Refusal → List ℕ

@@ -1,10 +1,9 @@
--- What a request means for a set with one GET rule: the message of its path, or why it is refused.
+-- What a request means for a route: the message of its path, or why it is refused.
 use Rattle.std.specs.Prelude.{◌≡◌, ◌≤◌, ◌<◌, ◌-◌, ◌++◌, ◌&&◌, ℕ, Bool, true, false, List, [], ◌∷◌, length, take, drop, codes, nat_eq, nat_le, not}
 use Rattle.std.specs.List.{list_any, starts_with}
 use Rattle.std.specs.Str.{IsUtf8, bytes_eq}
 use Rattle.gateway_run.specs.BoundMessage.{text_slots}
-use Rattle.gateway_run.specs.LinkedSet.{input}
-use Rattle.gateway_run.specs.declared.api.Api.{Api}
+use Rattle.gateway_run.specs.OneRoute.{OneRoute}
 use Rattle.gateway_run.specs.declared.refusal.Refusal.{Refusal}
 use Rattle.gateway_run.specs.declared.refusal.Refusal.TheVariants.{NotBuilt, PathUnknown, PathNotUtf8, MessageLong}
 use Rattle.grpc_frames.specs.LengthPrefixed.{length_prefixed}
@@ -26,54 +25,54 @@ abbrev pub between : ℕ × ℕ → List ℕ → List ℕ
 between span bytes = take (span.1 - span.0) (drop span.0 bytes)
 
 -- the template matches the path, and its variable takes this, decoded
-pub record Captures (api : Api) (target text : List ℕ) : Type 0 where
+pub record Captures (route : OneRoute) (target text : List ℕ) : Type 0 where
   pub span : ℕ × ℕ
-  pub matches : Matches api.template target (span ∷ [])
-  pub text_is : text ≡ captured api.template 0 (between span target)
+  pub matches : Matches route.template target (span ∷ [])
+  pub text_is : text ≡ captured route.template 0 (between span target)
 
 -- the canonical bytes of the message that has this text in the variable's field
-pub record IsMessageOf (api : Api) (text message : List ℕ) : Type 0 where
+pub record IsMessageOf (route : OneRoute) (text message : List ℕ) : Type 0 where
   pub value : Value
-  pub slots : slots_of value ≡ text_slots api.number text
-  pub bytes : message ≡ canonical_bytes api.types input value
+  pub slots : slots_of value ≡ text_slots route.number text
+  pub bytes : message ≡ canonical_bytes route.types route.input value
 
 -- the message that a request means, of at most 1,048,576 bytes
-pub record IsBound (api : Api) (method target message : List ℕ) : Type 0 where
+pub record IsBound (route : OneRoute) (method target message : List ℕ) : Type 0 where
   pub served : is_served method target ≡ true
   pub text : List ℕ
-  pub captures : Captures api target text
+  pub captures : Captures route target text
   pub utf8 : IsUtf8 text
-  pub is : IsMessageOf api text message
+  pub is : IsMessageOf route text message
   pub short : length message ≤ 1048576
 
 -- the variable's value is not UTF-8
-pub record IsNotUtf8 (api : Api) (target : List ℕ) : Type 0 where
+pub record IsNotUtf8 (route : OneRoute) (target : List ℕ) : Type 0 where
   pub text : List ℕ
-  pub captures : Captures api target text
+  pub captures : Captures route target text
   pub not_utf8 : IsUtf8 text → ⊥
 
 -- the message is longer than 1,048,576 bytes
-pub record IsLong (api : Api) (target : List ℕ) : Type 0 where
+pub record IsLong (route : OneRoute) (target : List ℕ) : Type 0 where
   pub text : List ℕ
-  pub captures : Captures api target text
+  pub captures : Captures route target text
   pub utf8 : IsUtf8 text
   pub message : List ℕ
-  pub is : IsMessageOf api text message
+  pub is : IsMessageOf route text message
   pub long : 1048576 < length message
 
 -- why a request is refused
-abbrev pub IsRefusal : Api → List ℕ → List ℕ → Refusal → Type 0
-IsRefusal api method target NotBuilt = is_served method target ≡ false
-IsRefusal api method target PathUnknown = (is_served method target ≡ true) × (Fits api.template target → ⊥)
-IsRefusal api method target PathNotUtf8 = (is_served method target ≡ true) × IsNotUtf8 api target
-IsRefusal api method target MessageLong = (is_served method target ≡ true) × IsLong api target
+abbrev pub IsRefusal : OneRoute → List ℕ → List ℕ → Refusal → Type 0
+IsRefusal route method target NotBuilt = is_served method target ≡ false
+IsRefusal route method target PathUnknown = (is_served method target ≡ true) × (Fits route.template target → ⊥)
+IsRefusal route method target PathNotUtf8 = (is_served method target ≡ true) × IsNotUtf8 route target
+IsRefusal route method target MessageLong = (is_served method target ≡ true) × IsLong route target
 
 -- what `bind` prints: the path, and the length-prefixed message in lower-case hexadecimal
 abbrev pub output : List ℕ → List ℕ → List ℕ
 output path message = codes "path " ++ (path ++ (codes "\nframe " ++ (encode_lower (length_prefixed message) ++ codes "\n")))
 
--- what `bind` prints of a request over what a set serves
-pub record IsPrinted (api : Api) (method target out : List ℕ) : Type 0 where
+-- what `bind` prints of a request for a route
+pub record IsPrinted (route : OneRoute) (method target out : List ℕ) : Type 0 where
   pub message : List ℕ
-  pub bound : IsBound api method target message
-  pub lines : out ≡ output api.path message
+  pub bound : IsBound route method target message
+  pub lines : out ≡ output route.path message

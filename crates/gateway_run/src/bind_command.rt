@@ -1,34 +1,38 @@
 //! The command `bind SET METHOD TARGET`.
-ghost use Rattle.std.specs.Prelude.{◌≡◌, ◌≤◌, ◌<◌, ◌^◌, ◌++◌, length, IfOk, IfSome, OnOk};
+ghost use Rattle.std.specs.Prelude.{◌≡◌, ◌≤◌, ◌<◌, ◌^◌, ◌++◌, length, Some, IfOk, IfSome, OnOk};
 ghost use Rattle.gate_world.specs.Causes.{Rose};
 ghost use Rattle.gateway_run.specs.CommandViews.{bind_view};
-ghost use Rattle.gateway_run.specs.LinkedApi.{IsLinked};
+ghost use Rattle.gateway_run.specs.OneRoute.{HasRoute, OneRoute, SetsString, one_route};
 ghost use Rattle.gateway_run.specs.Outcomes.{Gives, IsOutput, IsRefusedBy};
 ghost use Rattle.gateway_run.specs.RequestMeaning.{IsPrinted, IsRefusal, output};
 ghost use Rattle.gateway_run.specs.ServedSet.{Declares, IsUnserved};
+ghost use Rattle.gateway_run.specs.ServedView.{served_view};
 ghost use Rattle.hex.specs.Hex.{encode_lower};
 
-use crate::api::Api;
 use crate::binding::bind;
 use crate::command::Bind;
 use crate::descriptor_fault::DescriptorFault;
-use crate::linking::link;
+use crate::served::{Served, one_route};
 use crate::set_loading::read_whole;
 use crate::status::Stop;
 use descriptor_set::{SetFault, read_set};
 use gate_world::Files;
 use grpc_frames::frame;
 use schema::NoMemory;
+use schema_link::{Api, LinkFault, link};
 use std::alloc::Global;
 
 /// What the set of these bytes serves.
 fn linked(alloc: Global, bytes: &[u8]) -> Result<Api, Stop>
-    ensures gives { Gives (λ api. Declares bytes.now api × IsLinked api) (IsUnserved bytes.now) (λ _. ⊥) ⊥ result }
+    ensures gives { Gives (λ api. Declares bytes.now api × HasRoute api) (IsUnserved bytes.now) (λ _. ⊥) ⊥ result }
 {
     match read_set(alloc, bytes) {
-        Ok(set) => match link(alloc, &set)? {
-            Some(api) => Ok(api),
-            None => Err(Stop::Descriptors(DescriptorFault::NotBuilt)),
+        Ok(set) => match link(alloc, &set) {
+            Ok(api) => Ok(api),
+            Err(LinkFault::At(kind, name, second)) => {
+                Err(Stop::Descriptors(DescriptorFault::Link(kind, name, second)))
+            }
+            Err(LinkFault::NoMemory) => Err(Stop::NoMemory),
         },
         Err(SetFault::Wire(fault)) => Err(Stop::Descriptors(DescriptorFault::Wire(fault))),
         Err(SetFault::NotUtf8(place)) => Err(Stop::Descriptors(DescriptorFault::NotUtf8(place))),
@@ -62,17 +66,33 @@ fn lines(alloc: Global, path: &[u8], message: &[u8]) -> Result<Vec<u8>, NoMemory
     Ok(out)
 }
 
-/// What the command writes, for what a set serves.
-fn bound_output(alloc: Global, api: &Api, method: &[u8], target: &[u8]) -> Result<Vec<u8>, Stop>
-    requires { IsLinked api.now }
-    ensures { Gives (λ out. IsPrinted api.now method.now target.now out.items) (λ _. ⊥) (IsRefusal api.now method.now target.now) ⊥ result }
+/// What the command writes, for a route.
+fn route_output(
+    alloc: Global,
+    served: &Served<'_>,
+    method: &[u8],
+    target: &[u8],
+) -> Result<Vec<u8>, Stop>
+    requires { SetsString (served_view served.now) }
+    ensures { Gives (λ out. IsPrinted (served_view served.now) method.now target.now out.items) (λ _. ⊥) (IsRefusal (served_view served.now) method.now target.now) ⊥ result }
 {
-    match bind(alloc, api, method, target) {
+    match bind(alloc, served, method, target) {
         Ok(message) => {
-            let out = lines(alloc, api.path.as_str().as_bytes(), message.as_slice())?;
+            let out = lines(alloc, served.path.as_str().as_bytes(), message.as_slice())?;
             Ok(out)
         }
         Err(stop) => Err(stop),
+    }
+}
+
+/// What the command writes, for what a set serves.
+fn bound_output(alloc: Global, api: &Api, method: &[u8], target: &[u8]) -> Result<Vec<u8>, Stop>
+    requires { HasRoute api.now }
+    ensures { (route : OneRoute) → one_route api.now ≡ Some route → Gives (λ out. IsPrinted route method.now target.now out.items) (λ _. ⊥) (IsRefusal route method.now target.now) ⊥ result }
+{
+    match one_route(api) {
+        Some(served) => route_output(alloc, &served, method, target),
+        None => unreachable!(),
     }
 }
 

@@ -2,16 +2,17 @@
 ghost use Rattle.std.specs.Prelude.{◌≡◌, true, IfOk, MatchOption};
 ghost use Rattle.std.specs.Str.{IsUtf8};
 ghost use Rattle.gateway_run.specs.BoundMessage.{text_slots};
-ghost use Rattle.gateway_run.specs.LinkedApi.{IsLinked};
+ghost use Rattle.gateway_run.specs.OneRoute.{SetsString};
 ghost use Rattle.gateway_run.specs.Outcomes.{Gives};
 ghost use Rattle.gateway_run.specs.RequestMeaning.{Captures, IsBound, IsMessageOf, IsRefusal, is_served};
+ghost use Rattle.gateway_run.specs.ServedView.{served_view};
 ghost use Rattle.http_rules.specs.PercentDecoding.{captured};
 ghost use Rattle.http_rules.specs.TemplateMatch.{AreSpansOf};
 ghost use Rattle.schema.specs.Value.{slots_of};
 
-use crate::api::{Api, INPUT};
 use crate::matching::variable_span;
 use crate::refusal::Refusal;
+use crate::served::Served;
 use crate::status::Stop;
 use http_rules::capture;
 use schema::{Item, NoMemory, Slot, Text, Value};
@@ -58,34 +59,33 @@ fn message_of(alloc: Global, number: u32, text: Text) -> Result<Value, NoMemory>
 }
 
 /// The canonical bytes of the message that has the text in the variable's field.
-#[tactic(auto, using(crate::proofs::MessageLemmas::text_valid))]
-fn encoded(alloc: Global, api: &Api, text: Text) -> Result<Vec<u8>, NoMemory>
-    requires { IsLinked api.now }
-    ensures { IfOk result (λ bytes. IsMessageOf api.now text bytes.items) }
+fn encoded(alloc: Global, served: &Served<'_>, text: Text) -> Result<Vec<u8>, NoMemory>
+    requires { SetsString (served_view served.now) }
+    ensures { IfOk result (λ bytes. IsMessageOf (served_view served.now) text bytes.items) }
 {
     let _utf8 = text.as_str();
-    let value = message_of(alloc, api.number, text)?;
+    let value = message_of(alloc, served.number, text)?;
     let mut bytes = Vec::new(alloc);
-    encode(&api.types, INPUT, &value, &mut bytes)?;
+    encode(served.types, served.input, &value, &mut bytes)?;
     Ok(bytes)
 }
 
 /// The bytes of the message that has what the variable takes, decoded.
 fn message_bytes(
     alloc: Global,
-    api: &Api,
+    served: &Served<'_>,
     method: &[u8],
     target: &[u8],
     text: &[u8],
 ) -> Result<Vec<u8>, Stop>
-    requires linked { IsLinked api.now }
+    requires linked { SetsString (served_view served.now) }
     requires served { is_served method.now target.now ≡ true }
-    requires captures { Captures api.now target.now text.now }
-    ensures { Gives (λ bytes. IsBound api.now method.now target.now bytes.items) (λ _. ⊥) (IsRefusal api.now method.now target.now) ⊥ result }
+    requires captures { Captures (served_view served.now) target.now text.now }
+    ensures { Gives (λ bytes. IsBound (served_view served.now) method.now target.now bytes.items) (λ _. ⊥) (IsRefusal (served_view served.now) method.now target.now) ⊥ result }
 {
     match text_of(alloc, text)? {
         Some(text) => {
-            let bytes = encoded(alloc, api, text)?;
+            let bytes = encoded(alloc, served, text)?;
             if bytes.len() > MAX_MESSAGE_BYTES {
                 return Err(Stop::Refused(Refusal::MessageLong));
             }
@@ -96,17 +96,22 @@ fn message_bytes(
 }
 
 /// The bytes of the message that a request means.
-pub(crate) fn bind(alloc: Global, api: &Api, method: &[u8], target: &[u8]) -> Result<Vec<u8>, Stop>
-    requires { IsLinked api.now }
-    ensures { Gives (λ bytes. IsBound api.now method.now target.now bytes.items) (λ _. ⊥) (IsRefusal api.now method.now target.now) ⊥ result }
+pub(crate) fn bind(
+    alloc: Global,
+    served: &Served<'_>,
+    method: &[u8],
+    target: &[u8],
+) -> Result<Vec<u8>, Stop>
+    requires { SetsString (served_view served.now) }
+    ensures { Gives (λ bytes. IsBound (served_view served.now) method.now target.now bytes.items) (λ _. ⊥) (IsRefusal (served_view served.now) method.now target.now) ⊥ result }
 {
     if !is_served(method, target) {
         return Err(Stop::Refused(Refusal::NotBuilt));
     }
-    match variable_span(&api.template, target) {
+    match variable_span(served.template, target) {
         Some((from, to)) => {
-            let text = capture(alloc, &api.template, 0, &target[from..to])?;
-            message_bytes(alloc, api, method, target, text.as_slice())
+            let text = capture(alloc, served.template, 0, &target[from..to])?;
+            message_bytes(alloc, served, method, target, text.as_slice())
         }
         None => Err(Stop::Refused(Refusal::PathUnknown)),
     }

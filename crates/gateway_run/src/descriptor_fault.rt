@@ -1,9 +1,11 @@
 //! Why a descriptor set is not served.
 
+use schema::Text;
+use schema_link::LinkKind;
 use wire_format::WireFault;
 
 /// Why a descriptor set is not served.
-#[derive(Debug, Clone, Copy, PartialEq, Eq)]
+#[derive(Debug, Drop)]
 pub(crate) enum DescriptorFault {
     /// A record of the set, or of a message in it that is read, is wrong.
     Wire(WireFault),
@@ -11,6 +13,7 @@ pub(crate) enum DescriptorFault {
     NotUtf8(u64),
     /// The set has over 16,777,216 bytes.
     TooLong,
-    /// The set is read, and is of no form that is served so far.
-    NotBuilt,
+    /// The set is read, and is not linked: the kind of its first fault, the name of what has it, and a
+    /// second name or nothing.
+    Link(LinkKind, Text, Text),
 }

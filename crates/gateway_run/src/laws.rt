@@ -1,16 +1,18 @@
 //! Laws of the definitions that the contract of `run_offline` cites. Each is the contract of an empty
 //! function.
-ghost use Rattle.std.specs.Prelude.{◌≡◌, ℕ, List};
+ghost use Rattle.std.specs.Prelude.{◌≡◌, ℕ, List, IsSome};
 ghost use Rattle.gateway_run.specs.Commands.{BindWords};
+ghost use Rattle.gateway_run.specs.OneRoute.{one_route};
 ghost use Rattle.gateway_run.specs.Outcomes.{IsOutput, IsRefusedBy};
 ghost use Rattle.gateway_run.specs.ServedSet.{Declares, IsUnserved};
-ghost use Rattle.gateway_run.specs.declared.api.Api.{Api};
 ghost use Rattle.gateway_run.specs.declared.descriptor_fault.DescriptorFault.{DescriptorFault};
 ghost use Rattle.gateway_run.specs.declared.refusal.Refusal.{Refusal};
+ghost use Rattle.schema_link.specs.declared.api.Api.{Api};
 
-/// The bytes of a set serve one thing at most.
+/// The bytes of a set serve one thing at most, and that has a route.
 pub fn one_thing_is_served()
-    ensures { (bytes : List ℕ) (a b : Api) → Declares bytes a → Declares bytes b → a ≡ b }
+    ensures one { (bytes : List ℕ) (a b : Api) → Declares bytes a → Declares bytes b → a ≡ b }
+    ensures route { (bytes : List ℕ) (api : Api) → Declares bytes api → IsSome (one_route api) }
 {}
 
 /// A set that has a fault serves nothing, and has one fault.

@@ -1,27 +1,22 @@
 //! The commands of `grpcjson`, over the outside as traits.
 //!
 //! So far there is one: `bind SET METHOD TARGET` prints the gRPC path and the framed message that an
-//! HTTP request means, for a descriptor set with one GET rule. Linking, routing and binding are
-//! private parts. Begin with `run_offline`.
+//! HTTP request means, for a descriptor set with one GET rule. Routing and binding are private parts.
+//! Begin with `run_offline`.
 #![tactic(auto)]
 
-mod api;
 mod bind_command;
 mod binding;
 mod command;
 mod descriptor_fault;
-mod distinct;
 mod error_lines;
-mod fields;
-mod json_names;
 mod laws;
-mod linking;
 mod matching;
 mod offline;
 mod refusal;
+mod served;
 mod set_loading;
 mod status;
-mod templates;
 #[cfg(test)]
 mod tests;
 

@@ -2,7 +2,7 @@
 ghost use Rattle.std.specs.Prelude.{◌≡◌, ◌≢◌, ◌≤◌, ◌<◌, ◌↔◌, ◌∷◌, ◌++◌, ◌+◌, [], ℕ, List, true, length, take, drop, IsTrue, MatchOption};
 ghost use Rattle.std.specs.List.{AllByRecursion};
 ghost use Rattle.gateway_run.specs.PathPieces.{HasNoSlash, IsPieceEnd, BeginsWithPiece, TakesPiece, TakeAll, piece_span};
-ghost use Rattle.gateway_run.specs.ServedSet.{IsSomeTemplateOf};
+ghost use Rattle.gateway_run.specs.OneRoute.{IsSomeTemplateOf};
 ghost use Rattle.http_rules.specs.TemplateMatch.{Matches, Fits, IsPath, slashed};
 
 use http_rules::{Segment, Template};

@@ -69,7 +69,7 @@ pub fn run_offline<F: Files, I: Source, O: Sink, P: Policy + Drop>(
     match run_command(alloc, words, files, out) {
         Ok(()) => Status::Done,
         Err(stop) => {
-            let _ = write_line(err, stop);
+            let _ = write_line(err, &stop);
             stop.status()
         }
     }

@@ -44,7 +44,7 @@ impl Status {
 }
 
 /// Why a command did not end with Done.
-#[derive(Debug, Clone, Copy, PartialEq, Eq)]
+#[derive(Debug, Drop)]
 pub(crate) enum Stop {
     /// The words are no command.
     Usage,
@@ -62,8 +62,8 @@ pub(crate) enum Stop {
 
 impl Stop {
     /// The status.
-    pub fn status(self) -> Status
-        ensures { result ≡ stop_status self }
+    pub fn status(&self) -> Status
+        ensures { result ≡ stop_status self.now }
     {
         match self {
             Stop::Usage => Status::Usage,
