@@ -1,10 +1,10 @@
 -- What is decoded is valid: by levels, messages and entries of maps side by side.
-use Rattle.std.proofs.Common.{◌≡◌, ◌≢◌, ◌==◌, ◌&&◌, ◌||◌, ℕ, zero, suc, Bool, true, false, nat_eq, List, [], ◌∷◌, ◌++◌, map, Option, Some, None, arith, refl, ap, sym, ◌∙◌, subst, append-nil, flat_map, filter_map, option_and_then, unwrap_or}
+use Rattle.std.proofs.Common.{◌≡◌, ◌≢◌, ◌==◌, ◌&&◌, ◌||◌, ℕ, zero, suc, Bool, true, false, nat_eq, List, [], ◌∷◌, ◌++◌, map, Option, Some, None, arith, refl, ap, sym, ◌∙◌, subst, append-nil, flat_map, filter_map, option_and_then, unwrap_or, Result, Ok, Err, IfOk, get_or, Fits, w8}
 use Rattle.std.specs.List.{AllByRecursion}
 use Rattle.schema.specs.Apart.{AreApart}
 use Rattle.schema.specs.Layers.{ItemLayer}
 use Rattle.schema.specs.Pairs.{KeysRise}
-use Rattle.schema.specs.Soundness.{IsSound, IsSoundField, IsKeyKind, FitsShape}
+use Rattle.schema.specs.Soundness.{IsSoundField, IsKeyKind, FitsShape}
 use Rattle.schema.specs.Types.{field_in, fields_of}
 use Rattle.schema.specs.Validity.{IsScalarItem, IsItem, IsStored, IsSlot, IsFieldSlot, AreFieldSlots, oneofs_in, key_item, valid_within, IsValid}
 use Rattle.schema.specs.Value.{RiseFrom}
@@ -21,11 +21,13 @@ use Rattle.schema.specs.declared.types.fields.Shape.{Shape}
 use Rattle.schema.specs.declared.types.fields.Shape.TheVariants.{Single, Member, Many as ManyOf, Map as MapOf}
 use Rattle.schema.specs.declared.types.messages.TypeId.{TypeId}
 use Rattle.schema.specs.declared.types.messages.Types.{Types}
-use Rattle.wire_format.specs.Decoding.{DecodesTo}
+use Rattle.wire_format.specs.Checks.{Decodes}
+use Rattle.wire_format.specs.Decoding.{DecodesTo, decoding, fault_of, unless, value_of}
+use Rattle.wire_format.specs.declared.fault.DecodeFault.{DecodeFault}
 use Rattle.wire_format.specs.FieldValues.{payloads, sized_of, counted, stored, many, Inner, message_item, singular, items_of, default_item, entry_by, last_entries, entries_slot, pairs, slot_by, slot_of, gather, meaning_within}
-use Rattle.wire_format.specs.Laws.{AreBytes}
+use Rattle.wire_format.specs.Laws.{HasSoundFields, AreBytes}
 use Rattle.wire_format.specs.Scalars.{scalar_of, default_of}
-use Rattle.wire_format.specs.WireFaults.{is_message, entry_field, entry_fields, field_fault, first_fault}
+use Rattle.wire_format.specs.WireFaults.{Fault, is_message, entry_field, entry_fields, field_fault, first_fault}
 use Rattle.wire_format.specs.WireRecord.{Record, Payload, number, eight, sized, group, four, records}
 use Rattle.wire_format.proofs.RangeLemmas.{bytes_all, IsRanged, records_ranged}
 use Rattle.wire_format.proofs.RisingLemmas.{gather_rises, gather_all}
@@ -209,7 +211,7 @@ room_some (suc k) b h e z = absurd (omega arith)
 no_room : (b : Bool) → ◌≡◌ {A = Bool} (true || b) false → ⊥
 no_room b h = cc
 
-module _ (types : Types) (sound : IsSound types) where
+module _ (types : Types) (sound : HasSoundFields types) where
   message_level : (k : ℕ) → Validates k types → (id : TypeId) (bytes : List ℕ) → IsClean k types (fields_of types id) bytes → (valid_within (suc k) types).message id ((meaning_within (suc k) types).message (fields_of types id) bytes)
   unfolding valid_within meaning_within
   message_level k deeper id bytes c =
@@ -235,3 +237,17 @@ module _ (types : Types) (sound : IsSound types) where
       let valid = (validates 100).message (λ z. absurd (omega arith)) id (bytes ∷ []) (deep, tt) in
       let e : (meaning_within 100 types).message (fields_of types id) (bytes ++ []) ≡ v = ap ((meaning_within 100 types).message (fields_of types id)) (append-nil bytes) ∙ sym h.1 in
       subst ((valid_within 100 types).message id) e valid
+
+pub bytes_below : (bytes : List ℕ) → ((i : ℕ) → Fits w8 (get_or bytes i 0)) → AreBytes bytes
+bytes_below bytes k i = let f : Fits w8 (get_or bytes i 0) = k i in omega arith
+
+-- a value that was decoded is valid, where the types are sound
+pub valid_answer : (types : Types) (id : TypeId) (bytes : List ℕ) (r : Result Value DecodeFault) → AreBytes bytes → Decodes r (decoding types id bytes)
+    → IfOk r (λ v. HasSoundFields types → IsValid types id v)
+unfolding decoding
+valid_answer types id bytes (Err e) b h = tt
+valid_answer types id bytes (Ok v) b h = pick (fault_of types id bytes) refl h
+  where
+    pick : (o : Option Fault) → fault_of types id bytes ≡ o → unless o (value_of types id bytes) ≡ Ok v → HasSoundFields types → IsValid types id v
+    pick None e h sound = decoded_valid types sound id bytes v b (e, sym (cc (h)))
+    pick (Some f) e h sound = absurd (cc (h))

@@ -3,7 +3,7 @@ use Rattle.std.proofs.Common.{◌≡◌, ◌≢◌, ◌≤◌, ℕ, zero, suc, c
 use Rattle.std.specs.List.{AllByRecursion}
 use Rattle.schema.specs.Apart.{AreApart}
 use Rattle.schema.specs.Layers.{ItemLayer, SlotLayer}
-use Rattle.schema.specs.Soundness.{IsSound, IsSoundField}
+use Rattle.schema.specs.Soundness.{IsSoundField}
 use Rattle.schema.specs.Types.{field_in, fields_of}
 use Rattle.schema.specs.Validity.{IsItem, IsSlot, oneofs_in, valid_within, IsValid}
 use Rattle.schema.specs.Value.{RiseFrom, slots_of, slot_in}
@@ -18,6 +18,7 @@ use Rattle.schema.specs.declared.types.fields.Shape.{Shape}
 use Rattle.schema.specs.declared.types.fields.Shape.TheVariants.{Single, Member, Many as ManyOf, Map as MapOf}
 use Rattle.schema.specs.declared.types.messages.TypeId.{TypeId}
 use Rattle.schema.specs.declared.types.messages.Types.{Types}
+use Rattle.wire_format.specs.Laws.{HasSoundFields}
 use Rattle.wire_format.specs.CanonicalBytes.{slots_bytes, canonical_within, canonical_bytes}
 use Rattle.wire_format.specs.FieldValues.{payloads, slot_of, meaning_within}
 use Rattle.wire_format.specs.KeptFields.{KeepsSlot, KeepsMessage, KeepsField, KeepsAll}
@@ -105,7 +106,7 @@ module _ (k : ℕ) (types : Types) (sub : TypeId → Value → List ℕ) (deeper
             subst (λ (ps : List Payload). KeepsField (KeepsAll k types) types f.shape f.kind ps (slot_of (meaning_within k types) types fields found n)) (sym x.written)
             (subst (λ (g : Field). KeepsField (KeepsAll k types) types g.shape g.kind x.is.back.ps (slot_of (meaning_within k types) types fields found n)) same one)
 
-module _ (types : Types) (sound : IsSound types) where
+module _ (types : Types) (sound : HasSoundFields types) where
   pub message_keeps : (k : ℕ) (sub : TypeId → Value → List ℕ) → ReadsBack k types sub → KeepsBack k types sub → (id : TypeId) (w : Value) → (valid_within (suc k) types).message id w → HaveFieldLengths sub (fields_of types id) (slots_of w)
       → KeepsAll (suc k) types (fields_of types id) (slots_bytes sub (fields_of types id) (slots_of w))
   unfolding valid_within KeepsAll

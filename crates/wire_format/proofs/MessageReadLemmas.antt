@@ -19,6 +19,7 @@ use Rattle.schema.specs.declared.types.fields.Shape.TheVariants.{Single, Member,
 use Rattle.schema.specs.declared.types.messages.MessageType.{MessageType}
 use Rattle.schema.specs.declared.types.messages.TypeId.{TypeId}
 use Rattle.schema.specs.declared.types.messages.Types.{Types}
+use Rattle.wire_format.specs.Laws.{HasSoundFields}
 use Rattle.wire_format.specs.CanonicalBytes.{field_bytes, slots_bytes}
 use Rattle.wire_format.specs.FieldValues.{Inner, payloads, since, counts, in_oneof, counts_in, sets_other, counted, slot_by, slot_of, gather, meaning_within}
 use Rattle.wire_format.specs.GoodBytes.{AreWhole}
@@ -51,13 +52,21 @@ field_found types (g ∷ fs) n f h e = by (g.number == n) (eqb-true g.number n) 
     by true p e ih = subst (IsFound types n) (some_is g f e) (record { sound = h.0; number = p refl })
     by false p e ih = ih e
 
-pub fields_sound : (types : Types) (id : TypeId) → IsSound types → AllByRecursion (IsSoundField types) (fields_of types id)
-fields_sound types id h = each types.messages id.0 h.messages
+pub fields_sound : (types : Types) (id : TypeId) → HasSoundFields types → AllByRecursion (IsSoundField types) (fields_of types id)
+fields_sound types id h = each types.messages id.0 h
   where
-    each : (ms : List MessageType) (i : ℕ) → AllByRecursion (IsSoundMessage types) ms → AllByRecursion (IsSoundField types) (unwrap_or (option_map (λ (m : MessageType). m.fields) (slice_get ms i)) [])
+    each : (ms : List MessageType) (i : ℕ) → AllByRecursion (λ (m : MessageType). AllByRecursion (IsSoundField types) m.fields) ms → AllByRecursion (IsSoundField types) (unwrap_or (option_map (λ (m : MessageType). m.fields) (slice_get ms i)) [])
     each [] i h = tt
-    each (m ∷ ms) zero h = h.0.fields
+    each (m ∷ ms) zero h = h.0
     each (m ∷ ms) (suc i) h = each ms i h.1
+
+-- the fields of sound types are sound
+pub sound_fields : (types : Types) → IsSound types → HasSoundFields types
+sound_fields types h = each types.messages h.messages
+  where
+    each : (ms : List MessageType) → AllByRecursion (IsSoundMessage types) ms → AllByRecursion (λ (m : MessageType). AllByRecursion (IsSoundField types) m.fields) ms
+    each [] h = tt
+    each (m ∷ ms) h = (h.0.fields, each ms h.1)
 
 pub numbers_some : (types : Types) (fs : List Field) → AllByRecursion (IsSoundField types) fs → AllByRecursion (λ (f : Field). 0 < f.number) fs
 numbers_some types [] h = tt

@@ -1,6 +1,5 @@
 -- Canonical bytes decode to their value.
 use Rattle.std.proofs.Common.{◌≤◌, ◌<◌, ◌^◌, ℕ, zero, suc, List, length, arith, ap, sym}
-use Rattle.schema.specs.Soundness.{IsSound}
 use Rattle.schema.specs.Types.{fields_of}
 use Rattle.schema.specs.Validity.{valid_within, IsValid}
 use Rattle.schema.specs.Value.{slots_of}
@@ -8,6 +7,7 @@ use Rattle.schema.specs.declared.value.Slot.{Slot}
 use Rattle.schema.specs.declared.value.Value.{Value}
 use Rattle.schema.specs.declared.types.messages.TypeId.{TypeId}
 use Rattle.schema.specs.declared.types.messages.Types.{Types}
+use Rattle.wire_format.specs.Laws.{HasSoundFields}
 use Rattle.wire_format.specs.CanonicalBytes.{slots_bytes, canonical_within, canonical_bytes}
 use Rattle.wire_format.specs.Decoding.{DecodesTo}
 use Rattle.wire_format.specs.FieldValues.{meaning_within}
@@ -19,7 +19,7 @@ use Rattle.wire_format.proofs.EntryReadLemmas.{entry_back}
 use Rattle.wire_format.proofs.LengthLemmas.{slots_short}
 use Rattle.wire_format.proofs.MessageReadLemmas.{fields_sound, slots_back}
 
-module _ (types : Types) (sound : IsSound types) where
+module _ (types : Types) (sound : HasSoundFields types) where
   -- a message whose slots are read back is
   pub message_back : (k : ℕ) (sub : TypeId → Value → List ℕ) → ReadsBack k types sub → (id : TypeId) (v : Value) → (valid_within (suc k) types).message id v → HaveFieldLengths sub (fields_of types id) (slots_of v)
       → IsMessageBack (suc k) types id (slots_bytes sub (fields_of types id) (slots_of v)) v

@@ -1,8 +1,10 @@
 -- Laws of bytes and values.
 use Rattle.std.specs.Prelude.{◌≡◌, ◌<◌, ◌^◌, ◌↔◌, ◌++◌, ℕ, List, Ok, length, slice_index_or}
-use Rattle.schema.specs.Soundness.{IsSound}
+use Rattle.std.specs.List.{AllByRecursion}
+use Rattle.schema.specs.Soundness.{IsSound, IsSoundField}
 use Rattle.schema.specs.Types.{fields_of}
 use Rattle.schema.specs.Validity.{IsValid}
+use Rattle.schema.specs.declared.types.messages.MessageType.{MessageType}
 use Rattle.schema.specs.declared.types.messages.TypeId.{TypeId}
 use Rattle.schema.specs.declared.types.messages.Types.{Types}
 use Rattle.schema.specs.declared.value.Value.{Value}
@@ -20,21 +22,30 @@ HasOneValue = (types : Types) (id : TypeId) (bytes : List ℕ) (v w : Value) →
 abbrev pub DecodesWithoutFault : Type 0
 DecodesWithoutFault = (types : Types) (id : TypeId) (bytes : List ℕ) (v : Value) → decoding types id bytes ≡ Ok v ↔ DecodesTo types id bytes v
 
+-- each field of each message is sound. That is less than that the types are: fields of one message may have one
+-- number or one name
+abbrev pub HasSoundFields : Types → Type 0
+HasSoundFields types = AllByRecursion (λ (m : MessageType). AllByRecursion (IsSoundField types) m.fields) types.messages
+
+-- the fields of sound types are sound
+abbrev pub SoundTypesHaveSoundFields : Type 0
+SoundTypesHaveSoundFields = (types : Types) → IsSound types → HasSoundFields types
+
 -- each number of a list is a byte
 abbrev pub AreBytes : List ℕ → Type 0
 AreBytes bytes = (i : ℕ) → slice_index_or bytes i 0 < 256
 
 -- what bytes decode to is valid
 abbrev pub DecodedValuesAreValid : Type 0
-DecodedValuesAreValid = (types : Types) (id : TypeId) (bytes : List ℕ) (v : Value) → IsSound types → AreBytes bytes → DecodesTo types id bytes v → IsValid types id v
+DecodedValuesAreValid = (types : Types) (id : TypeId) (bytes : List ℕ) (v : Value) → HasSoundFields types → AreBytes bytes → DecodesTo types id bytes v → IsValid types id v
 
 -- the canonical bytes of a valid value decode to that value, where each length in them has 64 bits
 abbrev pub CanonicalBytesDecode : Type 0
-CanonicalBytesDecode = (types : Types) (id : TypeId) (v : Value) → IsSound types → IsValid types id v → HasLengths types id v → DecodesTo types id (canonical_bytes types id v) v
+CanonicalBytesDecode = (types : Types) (id : TypeId) (v : Value) → HasSoundFields types → IsValid types id v → HasLengths types id v → DecodesTo types id (canonical_bytes types id v) v
 
 -- so they do where they are fewer than 2 ^ 64 in all
 abbrev pub ShortCanonicalBytesDecode : Type 0
-ShortCanonicalBytesDecode = (types : Types) (id : TypeId) (v : Value) → IsSound types → IsValid types id v → length (canonical_bytes types id v) < 2 ^ 64 → DecodesTo types id (canonical_bytes types id v) v
+ShortCanonicalBytesDecode = (types : Types) (id : TypeId) (v : Value) → HasSoundFields types → IsValid types id v → length (canonical_bytes types id v) < 2 ^ 64 → DecodesTo types id (canonical_bytes types id v) v
 
 -- bytes, and behind them others that undo nothing that they set, decode to the merge of both values
 abbrev pub JoinedBytesMerge : Type 0
@@ -42,4 +53,4 @@ JoinedBytesMerge = (types : Types) (id : TypeId) (a b : List ℕ) (v w : Value) 
 
 -- so they do where the canonical bytes of a valid value stand behind
 abbrev pub CanonicalBytesMerge : Type 0
-CanonicalBytesMerge = (types : Types) (id : TypeId) (bytes : List ℕ) (v w : Value) → IsSound types → DecodesTo types id bytes v → IsValid types id w → HasLengths types id w → DecodesTo types id (bytes ++ canonical_bytes types id w) (merged types id v w)
+CanonicalBytesMerge = (types : Types) (id : TypeId) (bytes : List ℕ) (v w : Value) → HasSoundFields types → DecodesTo types id bytes v → IsValid types id w → HasLengths types id w → DecodesTo types id (bytes ++ canonical_bytes types id w) (merged types id v w)

@@ -22,6 +22,4 @@ pub mod Laws
 pub mod Sizes
 pub mod WorkedExamples
 pub mod RecordViews
-pub mod PlainRecords
 pub mod RecordReader
-pub mod TextFields

@@ -4,6 +4,7 @@ ghost use Rattle.std.specs.Prelude.{◌≡◌, ◌++◌, map, option_map, option
 ghost use Rattle.std.specs.List.{AllByRecursion, flat_map, filter_map};
 ghost use Rattle.schema.specs.Pairs.{entries_of};
 ghost use Rattle.schema.specs.Types.{field_in};
+ghost use Rattle.schema.specs.Validity.{IsValid};
 ghost use Rattle.schema.specs.Value.{slots_of};
 ghost use Rattle.schema.specs.declared.types.fields.Kind.TheVariants.{Message as MessageOf};
 ghost use Rattle.schema.specs.declared.value.Item.{out-Item};
@@ -11,6 +12,7 @@ ghost use Rattle.wire_format.specs.Checks.{Decodes};
 ghost use Rattle.wire_format.specs.Decoding.{decoding};
 ghost use Rattle.wire_format.specs.FieldValues.{sized_of, payloads, message_item, pairs as pairs_slot, stored as stored_slot, counted as counted_records, default_item as default_layer, singular, items_of, slot_by as slot_by_payloads, slot_of, last_entries, gather, meaning_within};
 ghost use Rattle.wire_format.specs.GoodBytes.{IsGoodItem, IsGoodEntry, IsGoodPayload, AreGoodRecords, AreGood};
+ghost use Rattle.wire_format.specs.Laws.{HasSoundFields};
 ghost use Rattle.wire_format.specs.RecordViews.{raw_of, payload_of as seen_payload};
 ghost use Rattle.wire_format.specs.WireFaults.{entry_fields};
 
@@ -349,9 +351,9 @@ fn message_of(
     gathered(alloc, types, inner, fields, records.as_slice())
 }
 
-/// The value that the bytes are as a message of the type, or the first fault.
+/// The value that the bytes are, or their first fault.
 #[tactic(auto, unfolding(crate::specs::Decoding::decoding))]
-pub fn decode(alloc: Global, types: &Types, id: TypeId, bytes: &[u8]) -> Result<Value, DecodeFault>
+fn decoded(alloc: Global, types: &Types, id: TypeId, bytes: &[u8]) -> Result<Value, DecodeFault>
     ensures { Decodes result (decoding types.now id bytes.now) }
 {
     let fields = types.fields(id);
@@ -360,4 +362,13 @@ pub fn decode(alloc: Global, types: &Types, id: TypeId, bytes: &[u8]) -> Result<
         Ok(value) => Ok(value),
         Err(NoMemory) => Err(DecodeFault::NoMemory),
     }
+}
+
+/// The value that the bytes are as a message of the type, or the first fault. Where the fields
+/// of the types are sound, the value is valid.
+pub fn decode(alloc: Global, types: &Types, id: TypeId, bytes: &[u8]) -> Result<Value, DecodeFault>
+    ensures is { Decodes result (decoding types.now id bytes.now) }
+    ensures valid { IfOk result (λ v. HasSoundFields types.now → IsValid types.now id v) }
+{
+    decoded(alloc, types, id, bytes)
 }

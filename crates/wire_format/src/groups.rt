@@ -9,7 +9,7 @@ use crate::payload::{Payload, payload_of, tag_of};
 
 /// A record at the front of bytes, with its payload in place.
 #[derive(Debug, Clone, Copy)]
-pub struct RawRecord<'a> {
+pub(crate) struct RawRecord<'a> {
     /// The field number.
     pub number: u32,
     /// What follows the tag.

@@ -1,5 +1,5 @@
 //! Laws that tie bytes and values together.
-ghost use Rattle.wire_format.specs.Laws.{CanonicalBytesDecode, CanonicalBytesMerge, DecodedValuesAreValid, DecodesWithoutFault, HasOneValue, JoinedBytesMerge, ShortCanonicalBytesDecode};
+ghost use Rattle.wire_format.specs.Laws.{CanonicalBytesDecode, CanonicalBytesMerge, DecodedValuesAreValid, DecodesWithoutFault, HasOneValue, JoinedBytesMerge, ShortCanonicalBytesDecode, SoundTypesHaveSoundFields};
 
 /// Bytes are one value of a message type at most.
 pub fn one_value()
@@ -9,6 +9,11 @@ pub fn one_value()
 /// What is decoded are exactly the bytes without a fault, and their value is what their records say.
 pub fn decodes_without_fault()
     ensures { DecodesWithoutFault }
+{}
+
+/// The fields of sound types are sound, which is all that the laws below want of types.
+pub fn sound_types_have_sound_fields()
+    ensures { SoundTypesHaveSoundFields }
 {}
 
 /// What is decoded is valid: in range, in UTF-8, in at most 100 levels, with no default stored where

@@ -27,11 +27,9 @@ pub use decoder::decode;
 pub use encoder::encode;
 pub use examples::{canonical_examples, decoding_examples, map_examples};
 pub use fault::{DecodeFault, WireFault, WireKind};
-pub use groups::RawRecord;
 pub use laws::{
     canonical_bytes_decode_to_their_value, decoded_values_are_valid, decodes_without_fault,
-    joined_bytes_merge, one_value,
+    joined_bytes_merge, one_value, sound_types_have_sound_fields,
 };
-pub use payload::Payload;
-pub use records::{Record, Records, first_record};
+pub use records::{Record, Records};
 pub use sizes::encoded_len;

@@ -9,7 +9,7 @@ use crate::varint::number_of;
 
 /// A payload, in place.
 #[derive(Debug, Clone, Copy)]
-pub enum Payload<'a> {
+pub(crate) enum Payload<'a> {
     /// A varint's 64 bits.
     Varint(u64),
     /// Eight bytes, little-endian.

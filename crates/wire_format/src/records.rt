@@ -1,15 +1,12 @@
 //! The records of one level of a message, one after another (the encoding guide, "Message
 //! Structure").
-ghost use Rattle.std.specs.Prelude.{◌≡◌, ◌≤◌, ◌+◌, length, option_map, IfSome};
-ghost use Rattle.wire_format.specs.PlainRecords.{plain_record, is_plain as is_plain_tag};
+ghost use Rattle.std.specs.Prelude.{◌≡◌};
 ghost use Rattle.wire_format.specs.RecordReader.{IsNext, TellsFirst, wire_type as wire_type_of};
-ghost use Rattle.wire_format.specs.RecordViews.{raw_of, payload_of, sized_len};
-ghost use Rattle.wire_format.specs.WireRecord.{tag_in};
+ghost use Rattle.wire_format.specs.RecordViews.{payload_of};
 
 use crate::fault::WireFault;
-use crate::groups::{RawRecord, record_of};
-use crate::payload::{Payload, tag_of};
-use crate::varint::varint_len;
+use crate::groups::record_of;
+use crate::payload::Payload;
 use std::marker::Model;
 
 /// Where a record lies. All offsets are from the first byte of what is read.
@@ -37,33 +34,6 @@ fn wire_type(payload: Payload<'_>) -> u8
         Payload::Len(_) => 2,
         Payload::Group => 3,
         Payload::I32(_) => 5,
-    }
-}
-
-/// True where the tag at the front is of VARINT or LEN and in its shortest form.
-fn is_plain(bytes: &[u8]) -> bool
-    ensures { result ≡ is_plain_tag (tag_in bytes.now) }
-{
-    match tag_of(bytes) {
-        Ok((number, wire, len)) => {
-            (wire == 0 || wire == 2) && len == varint_len(u64::from(number) * 8 + u64::from(wire))
-        }
-        Err(_) => false,
-    }
-}
-
-/// The whole record at the front, of VARINT or LEN and with a tag in its shortest form.
-#[tactic(auto, unfolding(crate::specs::PlainRecords::plain_record))]
-pub fn first_record(bytes: &[u8]) -> Option<RawRecord<'_>>
-    ensures value { option_map raw_of result ≡ plain_record bytes.now }
-    ensures within { IfSome result (λ r. (1 ≤ r.size) × (r.head + sized_len r.payload ≤ r.size) × (r.size ≤ length bytes.now)) }
-{
-    if !is_plain(bytes) {
-        return None;
-    }
-    match record_of(bytes, 0) {
-        Ok(found) => Some(found),
-        Err(_) => None,
     }
 }
 
