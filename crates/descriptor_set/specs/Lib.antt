@@ -7,3 +7,4 @@ pub mod FieldContents
 pub mod DescriptorFields
 pub mod SetReading
 pub mod SetExamples
+pub mod NothingLost

@@ -12,6 +12,7 @@ mod examples;
 mod fault;
 mod field_contents;
 mod file_set;
+mod laws;
 mod message_reader;
 mod rule_reader;
 mod service_reader;
@@ -23,4 +24,5 @@ pub use file_set::{
     EnumInfo, FieldInfo, FileInfo, FileSet, HttpInfo, MessageInfo, PatternInfo, RpcInfo,
     ServiceInfo,
 };
+pub use laws::nothing_is_lost;
 pub use set_reader::{MAX_SET_BYTES, read_set};

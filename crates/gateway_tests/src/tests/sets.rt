@@ -197,3 +197,26 @@ fn long_sets_are_not_read(rt: HostRuntime) -> Result<(), Fail> {
     );
     Ok(())
 }
+
+#[test]
+fn faults_have_their_texts(rt: HostRuntime) -> Result<(), Fail> {
+    for (kind, wrong) in [
+        (WireKind::Short, "passes its end"),
+        (WireKind::LongVarint, "has a varint that is too long"),
+        (WireKind::BadTag, "has a bad tag"),
+        (WireKind::BadGroup, "is in no whole group"),
+        (WireKind::TooDeep, "is nested too deep"),
+    ] {
+        let text = SetFault::Wire(WireFault { place: 7, kind }).to_string(rt.alloc())?;
+        let want = format!(in rt.alloc(); "the record at 7 {wrong}")?;
+        assert_eq!(rt; text.as_str(), want.as_str());
+    }
+    for (fault, want) in [
+        (SetFault::NotUtf8(7), "the string at 7 is not UTF-8"),
+        (SetFault::TooLong, "the descriptor set is too long"),
+        (SetFault::NoMemory, "out of memory"),
+    ] {
+        assert_eq!(rt; fault.to_string(rt.alloc())?.as_str(), want);
+    }
+    Ok(())
+}

@@ -1,0 +1,8 @@
+use Rattle.descriptor_set.proofs.WholeSets.{levels_kept, numbers_kept}
+use Rattle.descriptor_set.proofs.laws.nothing_is_lost.Goals as goal
+
+pub returns-clause-levels : goal.returns-clause-levels
+returns-clause-levels c = levels_kept
+
+pub returns-clause-numbers : goal.returns-clause-numbers
+returns-clause-numbers c = numbers_kept
