@@ -4,103 +4,19 @@ and its inflater reads the same fields from those that `encode` writes.
 
 usage: hpack_blocks.py [CONNECTIONS [SEED]]
 
-Exit status 77 says that libnghttp2 is missing.
+The blocks and the fields are rows of the program hpack_rows. Exit status 77 says that libnghttp2 is missing.
 """
 import ctypes
 import pathlib
 import random
-import shutil
+import re
 import subprocess
 import sys
-import tempfile
 
 ROOT = pathlib.Path(__file__).resolve().parent.parent
 
-# Reads lines: `new` begins a connection, `decode HEX` decodes its next block, and `first NAME=VALUE ..`
-# or `later NAME=VALUE ..` writes a block, in hexadecimal digits. Answers with a line each: of a block that
-# is decoded, the number of its fields and a hash of them (FNV-1a), since `rt try` takes little output.
-DRIVER = r"""//! Decodes and encodes header blocks that come in hexadecimal digits.
-#![tactic(auto)]
-
-use hpack_codec::{Decoder, Fields, encode};
-use schema::{Blob, FieldPair, List};
-use std::alloc::Global;
-use std::io::{self, BufRead, BufReader, BufWriter, Write};
-
-fn bytes_of(alloc: Global, text: &str) -> io::Result<Vec<u8>> {
-    match hex::decode(alloc, text) {
-        Ok(bytes) => Ok(bytes),
-        Err(_) => Err(io::Error::from(io::ErrorKind::InvalidData)),
-    }
-}
-
-fn blob_of(alloc: Global, text: &str) -> io::Result<Blob> {
-    Ok(Blob::from_vec(bytes_of(alloc, text)?))
-}
-
-fn found<T, E: Drop>(told: Result<T, E>) -> io::Result<T> {
-    match told {
-        Ok(value) => Ok(value),
-        Err(_) => Err(io::Error::from(io::ErrorKind::OutOfMemory)),
-    }
-}
-
-fn hash(start: u64, bytes: &[u8]) -> u64 {
-    let mut sum = start;
-    for byte in bytes {
-        sum = (sum ^ u64::from(*byte)).wrapping_mul(0x100000001b3);
-    }
-    sum
-}
-
-fn pairs_of(alloc: Global, words: &str) -> io::Result<List<FieldPair>> {
-    let mut pairs = List::new(alloc);
-    for word in words.split(' ') {
-        if let Some((name, value)) = word.split_once('=') {
-            found(pairs.push(FieldPair {
-                name: blob_of(alloc, name)?,
-                value: blob_of(alloc, value)?,
-            }))?;
-        }
-    }
-    Ok(pairs)
-}
-
-fn main(rt: HostRuntime) -> io::Result<()> {
-    let alloc = rt.alloc();
-    let mut out = BufWriter::new(alloc, io::writer(&rt))?;
-    let mut decoder = found(Decoder::new(alloc))?;
-    let mut fields = found(Fields::new(alloc))?;
-    for line in BufReader::new(alloc, rt.reader())?.lines(alloc) {
-        let line = line?;
-        let (command, rest) = line.split_once(' ').unwrap_or((line.as_str(), ""));
-        match command {
-            "new" => decoder = found(Decoder::new(alloc))?,
-            "decode" => {
-                let told = decoder.decode(bytes_of(alloc, rest)?.as_slice(), &mut fields);
-                let mut sum = 0xcbf29ce484222325u64;
-                for i in 0..fields.len() {
-                    let name = found(hex::encode(alloc, fields.name(i)))?;
-                    let value = found(hex::encode(alloc, fields.value(i)))?;
-                    sum = hash(hash(hash(sum, name.as_bytes()), b"="), value.as_bytes());
-                    sum = hash(sum, b"\n");
-                }
-                match told {
-                    Ok(()) => writeln!(out, "{} {sum}", fields.len())?,
-                    Err(fault) => writeln!(out, "{fault}")?,
-                }
-            }
-            _ => {
-                let mut block = Vec::new(alloc);
-                found(encode(command == "first", &pairs_of(alloc, rest)?, &mut block))?;
-                let text = found(hex::encode(alloc, block.as_slice()))?;
-                writeln!(out, "{text}")?;
-            }
-        }
-    }
-    out.flush()
-}
-"""
+sys.path.insert(0, str(ROOT / "scripts"))
+from program import built  # noqa: E402
 
 NAMES = [
     b":authority", b":method", b":path", b":scheme", b":status", b"accept", b"cache-control", b"content-length",
@@ -191,31 +107,45 @@ def raw_bytes(field, part, size):
     return ctypes.string_at(address, size) if size else b""
 
 
-def lines_of(fields):
-    return [f"{name.hex()}={value.hex()}" for name, value in fields]
+def shown(data):
+    """Bytes as the programs that answer rows write them."""
+    if not data:
+        return "-"
+    if re.fullmatch(rb"[ -~]+", data):
+        return "'" + data.decode().replace("|", "\0").replace(" ", "|20|'").replace("\0", "|7c|'")
+    parts = re.sub(rb"(?s)(.)\1{15,}|.", lambda m: digits(m[0]), data).decode()
+    return re.sub(r"\|+", "|", parts).strip("|")
 
 
-def hash_of(lines):
-    """FNV-1a of 64 bits over lines, as the driver takes it."""
-    total = 0xCBF29CE484222325
-    for byte in "".join(line + "\n" for line in lines).encode():
-        total = (total ^ byte) * 0x100000001B3 % 2**64
-    return total
+def digits(run):
+    """Hexadecimal digits of bytes that are alike, or of one byte."""
+    return (f"|{len(run)}*{run[:1].hex()}|" if len(run) > 1 else run.hex()).encode()
+
+
+def bytes_of(word):
+    """The bytes that a word in digits spells."""
+    parts = [re.fullmatch(r"(?:(\d+)\*)?([0-9a-f]+)", part) for part in word.split("|")]
+    return b"".join(bytes.fromhex(part[2]) * int(part[1] or 1) for part in parts)
+
+
+def words_of(fields):
+    """Fields as words of a row."""
+    return " ".join(f"{shown(name)} {shown(value)}" for name, value in fields)
 
 
 def connection(nghttp2, rng):
-    """Lines for the driver, and the answers that are wanted."""
+    """The words of a row, and the answer that is wanted."""
     deflater = ctypes.c_void_p()
     nghttp2.nghttp2_hd_deflate_new(ctypes.byref(deflater), ctypes.c_size_t(rng.choice([0, 40, 200, 1000, 4096, 4096])))
-    lines, wanted, used = ["new"], [], []
+    blocks, wanted, used = [], [], []
     for _ in range(rng.randrange(6) + 1):
         if rng.random() < 0.3:
             nghttp2.nghttp2_hd_deflate_change_table_size(deflater, ctypes.c_size_t(rng.randrange(4097)))
         fields = fields_of(rng, used)
-        lines.append(f"decode {deflated(nghttp2, deflater, fields, rng).hex()}")
-        wanted.append(f"{len(fields)} {hash_of(lines_of(fields))}")
+        blocks.append(deflated(nghttp2, deflater, fields, rng).hex() or "-")
+        wanted.append(" ".join(shown(name + b"=" + value) for name, value in fields))
     nghttp2.nghttp2_hd_deflate_del(deflater)
-    return lines, wanted
+    return "blocks " + " ".join(blocks), "; ".join(wanted)
 
 
 def is_read(nghttp2, block, first, fields):
@@ -230,21 +160,14 @@ def is_read(nghttp2, block, first, fields):
     return True
 
 
-def answers(lines):
-    """What the driver writes for these lines."""
-    with tempfile.TemporaryDirectory() as name:
-        folder = pathlib.Path(name)
-        for crate in ["schema", "hpack_codec"]:
-            for part in ["src", "specs", "proofs"]:
-                if (ROOT / "crates" / crate / part).is_dir():
-                    shutil.copytree(ROOT / "crates" / crate / part, folder / "crates" / crate / part)
-        (folder / "crates.txt").write_text("schema:\nhpack_codec: schema circular_buffer\nhpack_driver: schema hpack_codec hex\n")
-        driver = folder / "crates/hpack_driver"
-        (driver / "src").mkdir(parents=True)
-        (driver / "src/main.rt").write_text(DRIVER)
-        text = "".join(line + "\n" for line in lines)
-        run = subprocess.run(["rt", "try"], cwd=driver, input=text, capture_output=True, text=True)
-        return run.stdout.splitlines(), run
+def answers(rows):
+    """What the program answers to these rows."""
+    text = "".join(f"{i} {row}\n" for i, row in enumerate(rows))
+    run = subprocess.run([built("hpack_rows")], input=text, capture_output=True, text=True)
+    lines = run.stdout.split("\n")[:-1]
+    if run.returncode or len(lines) != len(rows):
+        sys.exit(f"status {run.returncode}, {len(lines)} lines: {run.stderr}")
+    return [line.removeprefix(f"{i} ") for i, line in enumerate(lines)]
 
 
 def main():
@@ -254,23 +177,23 @@ def main():
         return 77
     count = int(sys.argv[1]) if len(sys.argv) > 1 else 1000
     rng = random.Random(int(sys.argv[2]) if len(sys.argv) > 2 else 7541)
-    lines, wanted = [], []
+    rows, wanted = [], []
     for _ in range(count):
-        more, answer = connection(nghttp2, rng)
-        lines += more
-        wanted += answer
+        row, answer = connection(nghttp2, rng)
+        rows.append(row)
+        wanted.append(answer)
     written = []
     for i in range(min(count, 200)):
         fields = fields_of(rng, [])
         written.append((i % 2 == 0, fields))
-        lines.append(" ".join(["first" if i % 2 == 0 else "later"] + lines_of(fields)))
-    got, run = answers(lines)
-    if len(got) < len(wanted) + len(written) or got[: len(wanted)] != wanted:
-        at = next((i for i, pair in enumerate(zip(got, wanted)) if pair[0] != pair[1]), min(len(got), len(wanted)))
-        print(f"line {at}: {got[at:at + 1]}, not {wanted[at:at + 1]}; {run.returncode} {run.stderr[-500:]}"[:2000])
-        return 1
-    for (first, fields), block in zip(written, got[len(wanted):]):
-        if not is_read(nghttp2, bytes.fromhex(block), first, fields):
+        rows.append(f"encoded {'first' if i % 2 == 0 else 'later'} {words_of(fields)}".rstrip())
+    got = answers(rows)
+    for row, answer, want in zip(rows, got, wanted):
+        if answer != want:
+            print(f"{row}: {answer}, not {want}"[:2000])
+            return 1
+    for (first, fields), answer in zip(written, got[len(wanted):]):
+        if not is_read(nghttp2, bytes_of(answer)[1:], first, fields):
             return 1
     print(f"{count} connections of nghttp2 are decoded, and {len(written)} blocks of our own are read by nghttp2")
     return 0

@@ -1,19 +1,19 @@
 #!/usr/bin/env python3
-"""Makes the descriptor sets that the tests of linking judge, with their answers.
+"""Makes the rows of descriptor sets that crates/set_rows answers, with their answers.
 
 usage: link_sets.py [--check]
 
-It writes crates/schema_link/src/tests/sets.rt: tables of sets, a line for each with its label, its first
-fault or `ok`, and its bytes. The answers are worked out by hand from descriptor.proto,
+It writes crates/set_rows/stdin, a line for each row, and crates/set_rows/stdout, its answers: what is read of
+a set, its first fault or `ok`. The answers are worked out by hand from descriptor.proto,
 google/api/http.proto and the rules of linking in docs/DEFINITIONS.md.
-With --check it writes nothing, and fails where the file differs from what it would write.
+With --check it writes nothing, and fails where a file differs from what it would write.
 """
 import pathlib
 import re
 import sys
 
 ROOT = pathlib.Path(__file__).resolve().parent.parent
-MADE = ROOT / "crates/schema_link/src/tests/sets.rt"
+MADE = ROOT / "crates/set_rows"
 
 sys.path.insert(0, str(ROOT / "scripts"))
 from sample_sets import field, file, fileset, message, method, num, options, rule, service, text  # noqa: E402
@@ -691,10 +691,10 @@ ENUMS_MAPS_AND_KEYS = [
 ]
 
 TABLES = [
-    ("NAMES_AND_SIZES", "How large a set may be, its names, and whether it has a route.", NAMES_AND_SIZES),
-    ("METHODS_AND_RULES", "Methods, and their rules.", METHODS_AND_RULES),
-    ("MESSAGES_AND_FIELDS", "Messages that methods reach, and their fields.", MESSAGES_AND_FIELDS),
-    ("ENUMS_MAPS_AND_KEYS", "Enums, entries of maps, and the names of fields in JSON.", ENUMS_MAPS_AND_KEYS),
+    ("sizes_and_names_are_judged", "How large a set may be, its names, and whether it has a route.", NAMES_AND_SIZES),
+    ("methods_are_judged", "Methods, and their rules.", METHODS_AND_RULES),
+    ("messages_are_judged", "Messages that methods reach, and their fields.", MESSAGES_AND_FIELDS),
+    ("enums_maps_and_keys_are_judged", "Enums, entries of maps, and the names of fields in JSON.", ENUMS_MAPS_AND_KEYS),
 ]
 
 # A set whose M has a field of each shape, in two oneofs of which one is an optional field's.
@@ -726,54 +726,143 @@ SHAPES = fileset(
 )
 
 
-def quoted(line):
-    """The text of a line in a string of the language."""
-    out = []
-    for c in line:
-        if c in '\\"':
-            out.append("\\" + c)
-        elif " " <= c <= "~":
-            out.append(c)
-        else:
-            out.append(f"\\u{{{ord(c):x}}}")
-    return "".join(out)
+# A set of two files, the first with each listed field, its package, edition and options twice.
+WHOLE = (
+    "0ac3010a016612017112017022510a014d12200a017812022e4518052003280b32022e4e4202100042021001480252008801"
+    "011a030a014e22130a0145120e0a014110ffffffffffffffffff0132030a01653a0208013a02380142030a016f2a130a0145"
+    "120e0a014110ffffffffffffffffff01323b0a015312360a0347657412022e491a022e4f222382d3e493021d42070a014b12"
+    "022f6b3a012a5a0c1a042f70757412042f676574620172280130013a030a0174620865646974696f6e7370e60770e7070a00"
+)
+
+# What is read of it.
+CONTENTS = [
+    ("files_are_read", "files", "file f p editions 999 1 messages 1 extensions;file - - - 0 0 messages 0 extensions;"),
+    (
+        "messages_are_read",
+        "messages",
+        "file message M set=true entry=true { message N set=false entry=false enum E A=-1 oneof o 1 extensions } enum E A=-1 ;file ;",
+    ),
+    (
+        "fields_are_read",
+        "fields",
+        "file x .E 5 3 11 .N Some(true) Some(2) json= optional extension e - 0 0 0 - None None none plain ;file ;",
+    ),
+    ("services_are_read", "services", "file service S Get .I .O true true rule custom K /k * r rule GET /get - - ;file ;"),
+]
+
+# Sets that are refused while they are read, and sets beside them that are read.
+FAULTS_OF_RECORDS = [
+    ("0a020a", "Wire at 0 Short"),
+    ("0a0c70|10*80|00", "Wire at 2 LongVarint"),
+    ("0a020001", "Wire at 2 BadTag"),
+    ("0a010b", "Wire at 2 BadGroup"),
+    ("100*0b", "Wire at 99 TooDeep"),
+    ("0a020b0c", "read"),
+]
+LISTED_STRINGS = [
+    ("0a030a01ff", "NotUtf8 at 2"),
+    ("0a031a01ff", "read"),
+    ("0a050a01ff0001", "NotUtf8 at 2"),
+    ("0a0500010a01ff", "Wire at 2 BadTag"),
+]
+
+KINDS = (
+    "TooMany DoubleName NoRoute UnknownType NestedAdditional NoPattern BadMethod TemplateAt Proto2 Edition AnyType StructType "
+    "Extension KnownShape BadField Group Float BadEnum SameJsonName PathField BodyField ResponseField SameRoute NotBuilt"
+).split()
+
+SET_FAULTS = [
+    "Wire at 7 Short",
+    "Wire at 7 LongVarint",
+    "Wire at 7 BadTag",
+    "Wire at 7 BadGroup",
+    "Wire at 7 TooDeep",
+    "NotUtf8 at 7",
+    "TooLong",
+    "out of memory",
+]
+
+# The texts of a bad method with two names.
+LINK_FAULTS = [
+    ("/p.S/Get HEAD", "BadMethod /p.S/Get HEAD"),
+    ("/p.S/Get -", "BadMethod /p.S/Get"),
+    ("- -", "BadMethod "),
+    ("- HEAD", "BadMethod  HEAD"),
+]
+
+# The types of SHAPES: the fields of M, and how many messages, enums, methods and bindings there are.
+SHAPE_FIELDS = [
+    "id id 1 One(Text) Single Implicit false",
+    "marks_of marksOf 2 One(Sint64) Many Implicit true",
+    "tags tags 3 One(Text) Many Implicit false",
+    "stock stock 4 One(Enumeration(EnumId(0))) Map(Text) Implicit false",
+    "lent lent 5 One(Bool) Single Explicit false",
+    "person person 6 One(Bytes) Member(0) Explicit false",
+    "kind kind 7 One(Enumeration(EnumId(0))) Single Implicit false",
+    "sequel sequel 8 Message(TypeId(0)) Single Explicit false",
+    "other other 9 Message(TypeId(1)) Many Implicit false",
+    "loose free 10 One(Int32) Many Implicit false",
+    "card card 11 One(Fixed32) Member(0) Explicit false",
+    "plain plain 12 One(Uint64) Single Explicit false",
+]
 
 
-def rows(cases):
-    for label, answer, data in cases:
-        digits = data.hex() if isinstance(data, bytes) else data
-        assert "|" not in label + answer and "\n" not in label + answer, label
-        yield quoted(f"{label}|{answer}|{digits}") + "\\n\\\n"
+def word(data):
+    """The word of a row for a set: its bytes in hexadecimal digits, or its pieces between bars."""
+    if isinstance(data, bytes):
+        return data.hex() or "-"
+    pieces = []
+    for piece in data.split(" "):
+        digits, sign, count = re.fullmatch(r"([0-9a-f]*)(?:([*#])(\d+))?", piece).groups()
+        pieces.append(f"{count}{sign}{digits}" if sign else digits)
+    return "|".join(pieces) or "-"
+
+
+def read_rows():
+    for label, command, answer in CONTENTS:
+        yield label, f"{command} {WHOLE}", answer
+    for test, cases in [("faults_of_records_are_told", FAULTS_OF_RECORDS), ("listed_strings_are_utf8", LISTED_STRINGS)]:
+        for at, (data, answer) in enumerate(cases, 1):
+            yield f"{test}_{at}", f"read {data}", answer
+    yield "long_sets_are_not_read", f"read 65536*{'0a' * 256}|0a", "TooLong"
+    yield "faults_of_sets_have_their_texts", "set_faults", "".join(f"{text};" for text in SET_FAULTS)
+
+
+def link_rows():
+    for test, says, cases in TABLES:
+        yield "#", says, None
+        for label, answer, data in cases:
+            yield f"{test}:{label.replace(' ', '_')}", f"link {word(data)}", answer
+    yield "#", "Types, and texts.", None
+    counts = "2 1 1 1"
+    yield "types_have_their_shapes", f"shapes {SHAPES.hex()}", "".join(f"{line};" for line in SHAPE_FIELDS) + counts
+    yield "kinds_have_their_texts", "kinds", "".join(f"{kind};" for kind in KINDS)
+    for at, (names, answer) in enumerate(LINK_FAULTS, 1):
+        yield f"faults_have_their_texts_{at}", f"link_fault {names}", answer
+    yield "faults_have_their_texts_5", "no_memory", "out of memory"
 
 
 def made():
-    out = [
-        "//! Descriptor sets, as scripts/link_sets.py makes them.\n",
-        "//!\n",
-        "//! A line of a table has a label, the set's first fault or `ok`, and its bytes, between bars. The bytes\n",
-        "//! are pieces between blanks: hexadecimal digits, `DIGITS*N` for the same N times, and `DIGITS#N` for\n",
-        "//! the same N times, each with its number in four decimal digits behind it.\n",
-    ]
-    for name, says, cases in TABLES:
-        labels = [label for label, _, _ in cases]
-        assert len(set(labels)) == len(labels), [label for label in labels if labels.count(label) > 1]
-        out += [f"\n/// {says}\n#[rattlefmt::skip]\npub(super) const {name}: &str = \"\\\n", *rows(cases), '";\n']
-    out += [
-        "\n/// A set whose message M has a field of each shape.\n",
-        f'#[rattlefmt::skip]\npub(super) const SHAPES: &str = "{SHAPES.hex()}";\n',
-    ]
-    return "".join(out)
+    """The rows, and their answers."""
+    rows = [("#", "What is read of sets, and their first faults.", None), *read_rows(), *link_rows()]
+    labels = [label for label, _, answer in rows if answer is not None]
+    assert len(set(labels)) == len(labels), [label for label in labels if labels.count(label) > 1]
+    assert all("\n" not in label + asked and " " not in label for label, asked, _ in rows)
+    return {
+        MADE / "stdin": "".join(f"{label} {asked}\n" for label, asked, _ in rows),
+        MADE / "stdout": "".join(f"{label} {answer}\n" for label, _, answer in rows if answer is not None),
+    }
 
 
 def main():
-    data = made()
-    if "--check" not in sys.argv[1:]:
-        MADE.parent.mkdir(parents=True, exist_ok=True)
-        MADE.write_text(data)
-    elif not MADE.exists() or MADE.read_text() != data:
-        print(f"{MADE.relative_to(ROOT)} is not what scripts/link_sets.py makes")
-        return 1
-    return 0
+    stale = 0
+    for path, data in made().items():
+        if "--check" not in sys.argv[1:]:
+            path.write_text(data)
+        elif not path.exists() or path.read_text() != data:
+            print(f"{path.relative_to(ROOT)} is not what scripts/link_sets.py makes")
+            stale += 1
+    return 1 if stale else 0
 
 
 if __name__ == "__main__":

@@ -4,10 +4,11 @@
 usage: sample_sets.py [--check]
 
 It writes
-  crates/grpcjson/data/items.bin       the set of items.proto, without imports
-  crates/gateway_run/src/tests/sets.rt the sets of the first path: for faults of reading, of linking and
-                                       each point of the form that is served, one that breaks it alone
-                                       and one at its edge
+  crates/grpcjson/data/items.bin the set of items.proto, without imports
+  crates/bind_rows/stdin         the rows of `bind`: requests, words, faults of the outside, and sets: for
+                                 faults of reading, of linking and each point of the form that is served,
+                                 one that breaks it alone and one at its edge
+  crates/bind_rows/stdout        their answers
 With --check it writes nothing, and fails where a file differs from what it would write.
 """
 import pathlib
@@ -300,40 +301,143 @@ CASES = [
 ]
 
 
-def literal(data):
-    """A byte string of the language."""
-    out = []
-    for b in data:
-        c = chr(b)
-        if c in "\\\"'":
-            out.append("\\" + c)
-        elif 0x20 <= b <= 0x7E:
-            out.append(c)
+# Served sets whose path or payload is another than that of the sample set.
+OTHER_ANSWERS = {
+    "field number 536,870,911": ("/p.S/Get", "faffffff0f0178"),
+    "package googl": ("/googl.S/Get", "0a0178"),
+    "no package": ("/S/Get", "0a0178"),
+}
+
+# A target, and the payload that is bound of it.
+BOUND = [
+    ("/v1/items/a%2Fb", "0a03612f62"),
+    ("/v1/items/a%2fb", "0a03612f62"),
+    ("/v1/items/x", "0a0178"),
+    ("/v1/items/%zz", "0a03257a7a"),
+    ("/v1/items/%", "0a0125"),
+    ("/v1/items/%C3%A9", "0a02c3a9"),
+    ("/v1/items/a+b:c", "0a05612b623a63"),
+]
+
+# A method and a target, and what refuses them.
+NOT_UTF8, UNKNOWN, REFUSED_NOT_BUILT = ("400 path variable 1: not UTF-8", "404 path unknown", "501 not built")
+REFUSED = [
+    ("GET", "/v1/items/%ff", NOT_UTF8),
+    ("GET", "/v1/items/%C3", NOT_UTF8),
+    ("GET", "/v1/items/", UNKNOWN),
+    ("GET", "/v1/items", UNKNOWN),
+    ("GET", "/v1/items/x/", UNKNOWN),
+    ("GET", "/v1//items/x", UNKNOWN),
+    ("GET", "/V1/items/x", UNKNOWN),
+    ("GET", "/v1/%69tems/x", UNKNOWN),
+    ("GET", "/", UNKNOWN),
+    ("POST", "/v1/items/x", REFUSED_NOT_BUILT),
+    ("get", "/v1/items/x", REFUSED_NOT_BUILT),
+    ("GET", "/v1/items/x?", REFUSED_NOT_BUILT),
+    ("GET", "v1/items/x", REFUSED_NOT_BUILT),
+    ("GET", "http://h/v1/items/x", REFUSED_NOT_BUILT),
+    ("GET", "", REFUSED_NOT_BUILT),
+]
+
+# Words that are no command.
+USAGE = [
+    [],
+    ["bind"],
+    ["bind", "items.bin"],
+    ["bind", "items.bin", "GET"],
+    ["bind", "items.bin", "GET", "/v1/items/x", "x-a:b"],
+    ["bind", "items.bin", "", "/v1/items/x"],
+    ["bind", "items.bin", "G T", "/v1/items/x"],
+    ["bind", "items.bin", "GET", "/v1/items/ x"],
+    ["bind", "items.bin", "GET", "/v1/items/\u00e9"],
+    ["bind", "items.bin", "GET", "/v1/items/\x7f"],
+    ["Bind", "items.bin", "GET", "/v1/items/x"],
+    ["serve", "items.bin", "l", "u"],
+    ["routes", "items.bin"],
+    ["check", "items.bin"],
+    ["answer", "items.bin", "GET", "/v1/items/x", "0", ""],
+    ["load", "1"],
+    ["expand", "items.bin", "0"],
+    ["openapi", "items.bin"],
+    ["fetch", "u"],
+    ["--help"],
+]
+
+
+def word(data):
+    """A word of bytes: visible text, or hexadecimal digits."""
+    data = data.encode() if isinstance(data, str) else data
+    if data and all(0x21 <= b <= 0x7E and b != ord("|") for b in data):
+        return "'" + data.decode()
+    return data.hex() or "-"
+
+
+def frame(payload, path="/p.S/Get"):
+    """The output of `bind` for a payload in hexadecimal."""
+    return f"path {path}\nframe 00{len(payload) // 2:08x}{payload}\n"
+
+
+def debugged(line):
+    return '"' + line.replace("\n", "\\n") + '"'
+
+
+def padded(size):
+    """The word of the sample set with an unlisted record behind it, of so many bytes."""
+    payload = size - len(ITEMS) - 5
+    head = tag(2, 2) + varint(payload, 4)
+    assert len(head) == 5
+    times, rest = divmod(payload, 256)
+    return f"{(ITEMS + head).hex()}|{times}*{'00' * 256}|{rest}*00"
+
+
+def row(label, words, status, out="", err="", data=ITEMS, room=70_000, failing="-"):
+    """A row and its answer: words over a set, the status, what is written and the error line."""
+    data = data if isinstance(data, str) else data.hex() or "-"
+    asked = " ".join([f"{room} {failing} {data}", *map(word, words)])
+    return label.replace(" ", "_"), asked, f"{status} {debugged(out)} {debugged(err)}"
+
+
+def bind(target, method="GET"):
+    return ["bind", "items.bin", method, target]
+
+
+def bind_rows():
+    for at, (target, payload) in enumerate(BOUND, 1):
+        yield row(f"bound_requests_print_their_frame_{at}", bind(target), 0, frame(payload))
+    for at, (method, target, why) in enumerate(REFUSED, 1):
+        yield row(f"refused_requests_print_one_line_{at}", bind(target, method), 9, "", f"refused {why}\n")
+    test = "a_target_has_at_most_16384_bytes"
+    long = "/v1/items/" + "x" * 16_374
+    yield row(f"{test}_1", bind(long), 0, frame("0af67f" + "78" * 16_374))
+    yield row(f"{test}_2", bind(long + "x"), 9, "", "refused 501 not built\n")
+    test = "a_set_has_at_most_16777216_bytes"
+    yield row(f"{test}_1", bind(SHORT), 0, frame("0a0178"), data=padded(16_777_216))
+    yield row(f"{test}_2", bind(SHORT), 3, "", "descriptors: TooLong\n", padded(16_777_217))
+    for at, words in enumerate(USAGE, 1):
+        yield row(f"words_that_are_no_command_are_usage_{at}", words, 2, "", "usage\n", room=64)
+    test, whole = "faults_of_the_outside_are_named", frame("0a0178")
+    yield row(f"{test}_1", bind(SHORT), 0, whole, room=64)
+    yield row(f"{test}_2", ["bind", "lost.bin", "GET", SHORT], 4, "", "read fault\n", room=64)
+    yield row(f"{test}_3", bind(SHORT), 5, "", "write fault\n", room=64, failing=0)
+    yield row(f"{test}_4", bind(SHORT), 5, "", "write fault\n", room=0)
+    yield row(f"{test}_5", bind(SHORT), 5, whole[:10], "write fault\n", room=10)
+    for label, data, target, verdict in CASES:
+        label = f"each_fault_and_each_point_of_the_form_is_judged:{label}"
+        if verdict == READ:
+            path, payload = OTHER_ANSWERS.get(label.split(":")[1], ("/p.S/Get", "0a0178"))
+            yield row(label, bind(target), 0, frame(payload, path), data=data)
         else:
-            out.append(f"\\x{b:02x}")
-    return 'b"' + "".join(out) + '"'
-
-
-def table():
-    rows = "".join(f"{label}|{target}|{verdict}|{data.hex()}\\n\\\n" for label, data, target, verdict in CASES)
-    return f"""//! Descriptor sets, as scripts/sample_sets.py makes them.
-
-/// The set of one service with one GET rule, `/v1/items/{{id}}`.
-#[rattlefmt::skip]
-pub(crate) const ITEMS: &[u8] = {literal(ITEMS)};
-
-/// A line for each set: a label, a target that its template fits, `read` where it is served and else
-/// why not, and its bytes in hexadecimal, between bars.
-#[rattlefmt::skip]
-pub(crate) const CASES: &str = "\\
-{rows}";
-"""
+            yield row(label, bind(target), 3, "", f"descriptors: {verdict}\n", data)
 
 
 def main():
+    rows = list(bind_rows())
+    assert len({label for label, _, _ in rows}) == len(rows)
+    folder = ROOT / "crates/bind_rows"
     made = {
         ROOT / "crates/grpcjson/data/items.bin": ITEMS,
-        ROOT / "crates/gateway_run/src/tests/sets.rt": table().encode(),
+        folder / "stdin": "".join(f"{label} {asked}\n" for label, asked, _ in rows).encode(),
+        folder / "stdout": "".join(f"{label} {answer}\n" for label, _, answer in rows).encode(),
     }
     stale = []
     for path, data in made.items():

@@ -5,15 +5,16 @@ use Rattle.std.proofs.lemmas.List.{length-map, map_push, take_all}
 use Rattle.std.proofs.lemmas.Map.Keys.{IsDistinct-push}
 use Rattle.std.proofs.lemmas.Map.Steps.{length-le_from_distinct_below}
 use Rattle.std.specs.Cmp.{nat_eq_equiv}
-use Rattle.std.specs.List.{IsDistinct, flat_map, list_any}
+use Rattle.std.specs.List.{AllByRecursion, IsDistinct, flat_map, list_any}
 use Rattle.std.specs.Option.{option_and_then, option_map_or}
 use Rattle.std.specs.Str.{bytes_eq}
 use Rattle.descriptor_set.specs.declared.file_set.FieldInfo.{FieldInfo}
+use Rattle.base.proofs.EachLemmas.{each_always, each_flat, each_joined, each_mapped}
 use Rattle.descriptor_pool.specs.DeclaredNames.{DeclaredEnum, DeclaredMessage}
 use Rattle.descriptor_pool.specs.DeclaredTypes.{SetTypes, bare, enum_named, first_from, message_named}
 use Rattle.descriptor_pool.specs.FieldTypes.{field_enum, field_message, has_type, value_field}
 use Rattle.descriptor_pool.specs.QueueSteps.{taken_one}
-use Rattle.descriptor_pool.specs.ReachableTypes.{Joined, field_joins, fields_at, is_of, joins, method_roots, next, once, queue, reachable, with_joined, message_enums, named_enum, reached_enums, with_index}
+use Rattle.descriptor_pool.specs.ReachableTypes.{Joined, field_joins, fields_at, is_of, joins, messages_of, method_roots, next, once, queue, reachable, with_joined, message_enums, named_enum, reached_enums, with_index}
 use Rattle.descriptor_pool.specs.SetMethods.{BoundMethod}
 use Rattle.descriptor_pool.proofs.QueueLemmas.{IsWorkedOff, worked_off_more, worked_off_none}
 
@@ -49,12 +50,7 @@ chosen false o i h = absurd (cc (h))
 
 -- indexes below a bound
 abbrev pub AreBelow : ℕ → List ℕ → Type 0
-AreBelow n [] = Unit {0}
-AreBelow n (i ∷ is) = (i < n) × AreBelow n is
-
-below_append : (n : ℕ) (xs ys : List ℕ) → AreBelow n xs → AreBelow n ys → AreBelow n (xs ++ ys)
-below_append n [] ys a b = b
-below_append n (x ∷ xs) ys a b = (a.0, below_append n xs ys a.1 b)
+AreBelow n is = AllByRecursion (λ (i : ℕ). i < n) is
 
 below_any : (n : ℕ) (xs : List ℕ) → AreBelow n xs → (q : ℕ) → list_any (nat_eq q) xs ≡ true → q < n
 below_any n [] a q h = absurd (cc (h))
@@ -84,7 +80,7 @@ index_below n xs i a l = pick (list_any (nat_eq i) xs)
   where
     pick : (b : Bool) → AreBelow n (cond b xs (xs ++ i ∷ []))
     pick true = a
-    pick false = below_append n xs (i ∷ []) a (l, tt)
+    pick false = each_joined (λ (k : ℕ). k < n) xs (i ∷ []) a (l, tt)
 
 indexes_few : (n : ℕ) (xs is : List ℕ) → IsDistinct nat_eq xs → AreBelow n xs → AreBelow n is → length (fold with_index xs is) ≤ n
 indexes_few n xs [] d a b = few n xs d a
@@ -93,8 +89,7 @@ indexes_few n xs (i ∷ is) d a b = indexes_few n (with_index xs i) is (index_di
 -- ---- enums
 
 below_flat : {X : Type 0} (n : ℕ) (f : X → List ℕ) → ((x : X) → AreBelow n (f x)) → (xs : List X) → AreBelow n (flat_map f xs)
-below_flat n f h [] = tt
-below_flat n f h (x ∷ xs) = below_append n (f x) (flat_map f xs) (h x) (below_flat n f h xs)
+below_flat n f h xs = each_flat f (λ (i : ℕ). i < n) xs (each_always (λ x. AreBelow n (f x)) h xs)
 
 one_below : (n : ℕ) (o : Option ℕ) → ((i : ℕ) → o ≡ Some i → i < n) → AreBelow n (option_map_or (λ i. i ∷ []) o [])
 one_below n None h = tt
@@ -112,10 +107,6 @@ enums_whole types js =
     take_all n (fold with_index [] (flat_map (message_enums types) js)) (indexes_few n [] (flat_map (message_enums types) js) nothing_distinct tt all)
 
 -- ---- messages
-
--- the messages of items
-abbrev pub messages_of : List Joined → List ℕ
-messages_of js = map (λ (j : Joined). j.message) js
 
 any_of : (i : ℕ) (js : List Joined) → list_any (nat_eq i) (messages_of js) ≡ list_any (is_of i) js
 any_of i [] = refl
@@ -138,15 +129,13 @@ folded_index js (x ∷ xs) = folded_index (with_joined js x) xs ∙ ap (λ z. fo
 
 -- the messages of items are below a bound
 abbrev pub AllBelow : ℕ → List Joined → Type 0
-AllBelow n js = AreBelow n (messages_of js)
+AllBelow n js = AllByRecursion (λ (j : Joined). j.message < n) js
 
 all_append : (n : ℕ) (xs ys : List Joined) → AllBelow n xs → AllBelow n ys → AllBelow n (xs ++ ys)
-all_append n [] ys a b = b
-all_append n (x ∷ xs) ys a b = (a.0, all_append n xs ys a.1 b)
+all_append n xs ys a b = each_joined (λ (j : Joined). j.message < n) xs ys a b
 
 all_flat : {X : Type 0} (n : ℕ) (f : X → List Joined) → ((x : X) → AllBelow n (f x)) → (xs : List X) → AllBelow n (flat_map f xs)
-all_flat n f h [] = tt
-all_flat n f h (x ∷ xs) = all_append n (f x) (flat_map f xs) (h x) (all_flat n f h xs)
+all_flat n f h xs = each_flat f (λ (j : Joined). j.message < n) xs (each_always (λ x. AllBelow n (f x)) h xs)
 
 join_below : (n : ℕ) (path : List ℕ) (o : Option ℕ) → ((i : ℕ) → o ≡ Some i → i < n) → AllBelow n (joins path o)
 join_below n path None h = tt
@@ -175,9 +164,13 @@ module _ (types : SetTypes) (ms : List BoundMethod) where
   pub queue_below : (js : List Joined) → AllBelow bound (queue types ms js)
   queue_below js = all_append bound (flat_map (method_roots types) ms) (flat_map (next types) js) roots_below (all_flat bound (next types) next_below js)
 
+  -- and so are the indexes of these
+  pub indexes_below : (js : List Joined) → AreBelow bound (messages_of (queue types ms js))
+  indexes_below js = each_mapped (λ (j : Joined). j.message) (λ (i : ℕ). i < bound) (queue types ms js) (queue_below js)
+
   once_few : (js : List Joined) → length (once (queue types ms js)) ≤ bound
   once_few js =
-      let many = indexes_few bound [] (messages_of (queue types ms js)) nothing_distinct tt (queue_below js) in
+      let many = indexes_few bound [] (messages_of (queue types ms js)) nothing_distinct tt (indexes_below js) in
       let same = ap length (folded_index [] (queue types ms js)) in
       omega (arith, many, same, length-map (once (queue types ms js)) (λ (j : Joined). j.message))
 

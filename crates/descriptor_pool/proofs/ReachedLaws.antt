@@ -2,15 +2,17 @@
 use Rattle.std.proofs.Common.{◌≡◌, ◌<◌, ◌++◌, ◌||◌, ℕ, Bool, true, false, cond, List, [], ◌∷◌, length, fold, nat_eq, Option, Some, None, refl, sym, ap, subst, ◌∙◌}
 use Rattle.std.proofs.lemmas.Bool.{eq-eqb, or_left, or_right}
 use Rattle.std.proofs.lemmas.List.Folds.{list_any-append}
-use Rattle.std.specs.List.{AllByRecursion, flat_map, list_any}
+use Rattle.std.proofs.lemmas.List.Elements.{All-contains_itself, recursion_from_All}
+use Rattle.std.specs.List.{AllByRecursion, Contains, flat_map, list_any}
 use Rattle.std.specs.Option.{option_map_or}
 use Rattle.descriptor_set.specs.declared.file_set.FieldInfo.{FieldInfo}
 use Rattle.descriptor_pool.specs.DeclaredTypes.{SetTypes, enum_named}
 use Rattle.descriptor_pool.specs.FieldTypes.{field_enum, field_message, has_type, value_field}
-use Rattle.descriptor_pool.specs.ReachableTypes.{Joined, field_joins, fields_at, joins, message_enums, method_roots, named_enum, next, queue, reachable, reached_enums, with_index}
+use Rattle.descriptor_pool.specs.ReachableTypes.{Joined, field_joins, fields_at, joins, message_enums, messages_of, method_roots, named_enum, next, queue, reachable, reached_enums, with_index}
+use Rattle.descriptor_pool.specs.ReachedClosure.{HaveEnums, HaveMessages, IsNamedBy, IsReachClosed}
 use Rattle.descriptor_pool.specs.SetMethods.{BoundMethod}
-use Rattle.descriptor_pool.proofs.EachLemmas.{each_always, each_flat, each_image, each_joined, each_of_flat, each_part, each_weaker}
-use Rattle.descriptor_pool.proofs.QueueLaws.{AreBelow, chosen, enum_below, enums_whole, folded_index, messages_of, queue_below, queue_whole}
+use Rattle.base.proofs.EachLemmas.{each_always, each_flat, each_image, each_joined, each_of_flat, each_part, each_weaker}
+use Rattle.descriptor_pool.proofs.QueueLaws.{chosen, enum_below, enums_whole, folded_index, indexes_below, queue_whole}
 
 -- ---- indexes that are gathered
 
@@ -49,19 +51,11 @@ each_gathered : (P : ℕ → Type 0) (is xs : List ℕ) → AllByRecursion P is 
 each_gathered P is [] a b = a
 each_gathered P is (x ∷ xs) a b = each_gathered P (with_index is x) xs (one_more P is x a b.0) b.1
 
-below_each : (n : ℕ) (is : List ℕ) → AreBelow n is → AllByRecursion (λ i. i < n) is
-below_each n [] a = tt
-below_each n (i ∷ is) a = (a.0, below_each n is a.1)
-
 -- ---- messages
 
 one_joined : (P : ℕ → Type 0) (path : List ℕ) (o : Option ℕ) → AllByRecursion (λ (j : Joined). P j.message) (joins path o) → (i : ℕ) → o ≡ Some i → P i
 one_joined P path None a i h = absurd (cc h)
 one_joined P path (Some k) a i h = let same : k ≡ i = cc h in subst P same a.0
-
--- the messages of fields have a property
-abbrev pub HaveMessages : SetTypes → (ℕ → Type 0) → List FieldInfo → Type 0
-HaveMessages types P fs = AllByRecursion (λ f. (i : ℕ) → field_message types (value_field types f) ≡ Some i → P i) fs
 
 module _ (types : SetTypes) (ms : List BoundMethod) where
   reached_is : messages_of (reachable types ms) ≡ fold with_index [] (messages_of (queue types ms (reachable types ms)))
@@ -88,7 +82,7 @@ module _ (types : SetTypes) (ms : List BoundMethod) where
   messages_below =
       let js = reachable types ms in
       subst (AllByRecursion (λ i. i < length types.messages)) (sym reached_is)
-      (each_gathered (λ i. i < length types.messages) [] (messages_of (queue types ms js)) tt (below_each (length types.messages) (messages_of (queue types ms js)) (queue_below types ms js)))
+      (each_gathered (λ i. i < length types.messages) [] (messages_of (queue types ms js)) tt (indexes_below types ms js))
 
 -- ---- enums
 
@@ -99,10 +93,6 @@ one_named P (Some k) a i h = let same : k ≡ i = cc h in subst P same a.0
 named_one : (P : ℕ → Type 0) (o : Option ℕ) → ((i : ℕ) → o ≡ Some i → P i) → AllByRecursion P (option_map_or (λ i. i ∷ []) o [])
 named_one P None h = tt
 named_one P (Some i) h = (h i refl, tt)
-
--- the enums of fields have a property
-abbrev pub HaveEnums : SetTypes → (ℕ → Type 0) → List FieldInfo → Type 0
-HaveEnums types P fs = AllByRecursion (λ f. (i : ℕ) → field_enum types (value_field types f) ≡ Some i → P i) fs
 
 module _ (types : SetTypes) where
   -- the enums that fields of some messages name are among those reached from these
@@ -139,3 +129,27 @@ module _ (types : SetTypes) where
       (λ f i h. let v = value_field types f in enum_below types v.type_name i (chosen (has_type 14 v) (enum_named types v.type_name) i h))
       (fields_at types j.message))
       js)
+
+-- each item of a list is one of it
+each_itself : {X : Type 0} (xs : List X) → AllByRecursion (Contains xs) xs
+each_itself xs = recursion_from_All (Contains xs) xs (All-contains_itself xs)
+
+-- each enum that is reached is one that a field names
+pub enums_named : (types : SetTypes) (js : List Joined) → AllByRecursion (IsNamedBy types js) (reached_enums types js)
+enums_named types js =
+    enums_have types (IsNamedBy types js) js
+    (each_weaker (Contains js) (λ (j : Joined). HaveEnums types (IsNamedBy types js) (fields_at types j.message))
+    (λ (j : Joined) a. each_weaker (Contains (fields_at types j.message)) (λ f. (i : ℕ) → field_enum types (value_field types f) ≡ Some i → IsNamedBy types js i)
+    (λ f b i h. record { item = j; among = a; field = f; inside = b; names = h })
+    (fields_at types j.message) (each_itself (fields_at types j.message)))
+    js (each_itself js))
+
+-- what methods reach is closed
+pub reach_closed : (types : SetTypes) (ms : List BoundMethod) → IsReachClosed types ms
+reach_closed types ms = record {
+  messages = messages_closed types ms;
+  enums = enums_closed types (reachable types ms);
+  messages_below = messages_below types ms;
+  enums_below = enums_below types (reachable types ms);
+  enums_named = enums_named types (reachable types ms);
+}

@@ -3,45 +3,19 @@ use Rattle.std.proofs.Common.{◌≡◌, ◌<◌, ◌||◌, ◌≤◌, ◌-◌, 
 use Rattle.std.proofs.lemmas.List.{drop_more, map_more}
 use Rattle.std.proofs.lemmas.List.Folds.{list_any-append}
 use Rattle.std.specs.List.{list_any}
-use Rattle.std.proofs.lemmas.Map.Text.{is_eq-slice_cmp, btree_map_updates_str}
-use Rattle.std.proofs.lemmas.Slice.Eq.{bytes_eq-Decides}
+use Rattle.std.proofs.lemmas.Map.Text.{btree_map_updates_str}
 use Rattle.std.specs.BTreeMap as tree
 use Rattle.std.specs.BTreeMap.{BTreeMap}
-use Rattle.std.specs.BTreeSet as sorted
 use Rattle.std.specs.BTreeSet.{BTreeSet}
-use Rattle.std.specs.Bool.{Decides}
 use Rattle.std.specs.Cmp.Lexicographic.{slice_cmp}
 use Rattle.std.specs.Ordering.{nat_cmp}
 use Rattle.std.specs.Str.{bytes_eq}
+use Rattle.base.proofs.TextLemmas.{bytes_eq_swap}
 use Rattle.descriptor_pool.specs.DeclaredTypes.{first_from}
 use Rattle.descriptor_pool.specs.NameIndex.{index_at}
 use Rattle.descriptor_pool.specs.TextSets.{has}
 
-agree : (r s : Bool) (P : Type 0) → Decides r P → Decides s P → r ≡ s
-agree true true P d e = refl
-agree true false P d e = sym (e.1 (d.0 refl))
-agree false true P d e = d.1 (e.0 refl)
-agree false false P d e = refl
-
--- two texts are equal in either order
-pub bytes_eq_swap : (a b : List ℕ) → bytes_eq a b ≡ bytes_eq b a
-bytes_eq_swap a b =
-    agree (bytes_eq a b) (bytes_eq b a) (a ≡ b) (bytes_eq-Decides a b)
-    ((λ t. sym ((bytes_eq-Decides b a).0 t)), (λ e. (bytes_eq-Decides b a).1 (sym e)))
-
-or_swap : (b c : Bool) → cond b true c ≡ (c || b)
-or_swap true true = refl
-or_swap true false = refl
-or_swap false true = refl
-or_swap false false = refl
-
--- after a key is put into a set, the set has that key and what it had
-pub has_more : (key : Bor (List ℕ)) (s n : BTreeSet (Bor (List ℕ))) → sorted.Updates (λ x y. slice_cmp nat_cmp x.now y.now) s n key true → (q : List ℕ) → has n q ≡ (has s q || bytes_eq q key.now)
-has_more key s n h q =
-    let k : Bor (List ℕ) = record { ref_ptr = (0, 0); now = q } in
-    h.0 k ∙ ap (λ z. cond z true (has s q)) (is_eq-slice_cmp key.now q ∙ bytes_eq_swap key.now q) ∙ or_swap (bytes_eq q key.now) (has s q)
-
--- after the name at a place got that place, the map has the index of each name from there on
+-- after the name at an index got that index, the map has the index of each name from there on
 pub index_more : (names : List (Bor (List ℕ))) (at : ℕ) (m n : BTreeMap (Bor (List ℕ)) ℕ) (name : Bor (List ℕ)) (rest : List (Bor (List ℕ)))
     → tree.Updates (λ x y. slice_cmp nat_cmp x.now y.now) m n name (Some at)
     → ((q : List ℕ) → index_at m q ≡ first_from (at + 1) (map (λ k. k.now) rest) q)
@@ -68,7 +42,7 @@ texts_more names i s n lt held more q =
     ∙ sym (list_any-append (bytes_eq q) (map (λ k. k.now) (take i names)) ((get_or names i d).now ∷ []))
     ∙ ap (list_any (bytes_eq q)) (sym (map_more (λ (k : Bor (List ℕ)). k.now) names i d lt))
 
--- the same with the names in a list from that place on
+-- the same with the names in a list from that index on
 pub index_at_more : (names : List (Bor (List ℕ))) (at : ℕ) (m n : BTreeMap (Bor (List ℕ)) ℕ) → 0 < at → at ≤ length names
     → tree.Updates (λ x y. slice_cmp nat_cmp x.now y.now) m n (get_or names (at - 1) (record { ref_ptr = (0, 0); now = [] })) (Some (at - 1))
     → ((q : List ℕ) → index_at m q ≡ first_from at (map (λ k. k.now) (drop at names)) q)

@@ -5,6 +5,7 @@ use Rattle.descriptor_pool.specs.DeclaredNames.{Declaration, File, Message, Enum
 use Rattle.descriptor_pool.specs.declared.declared_names.Declared.{Declared}
 use Rattle.descriptor_pool.specs.declared.declared_names.Declared.TheVariants.{File as FileOf, Message as MessageOf, Enum as EnumOf, Service as ServiceOf, Extension as ExtensionOf}
 
+-- a declaration under a name, as what it declares
 abbrev pub seen : List ℕ → Declared → Declaration
 seen name FileOf = File name
 seen name (MessageOf f m) = Message (message_of name f.now.syntax (out-MessageInfo m.now))

@@ -65,6 +65,7 @@ message_step syntax m scope =
     Message (message_of (in_scope scope m.name) syntax m)
     ∷ (flat_map (λ (nested : List ℕ → List Declaration). nested (in_scope scope m.name)) m.nested_type ++ (enums_in (in_scope scope m.name) m.enum_type ++ extensions_in m.extension))
 
+-- what a message in a scope declares, in a file of a syntax
 abbrev pub declared_in : List ℕ → MessageInfo → List ℕ → List Declaration
 declared_in syntax = fold-MessageInfo (List ℕ → List Declaration) (message_step syntax)
 

@@ -11,10 +11,12 @@ pub record SetTypes : Type 0 where
   pub enums : List DeclaredEnum
   pub extended : List (List ℕ)
 
+-- the message of a declaration, where it is one
 abbrev pub message_in : Declaration → List DeclaredMessage
 message_in (Message m) = m ∷ []
 message_in _ = []
 
+-- the enum of a declaration, where it is one
 abbrev pub enum_in : Declaration → List DeclaredEnum
 enum_in (Enum e) = e ∷ []
 enum_in _ = []
@@ -24,10 +26,12 @@ abbrev pub bare : List ℕ → Option (List ℕ)
 bare [] = None
 bare (b ∷ bs) = if b == 46 then Some bs else None
 
+-- the full name of the message that a declaration extends, where it is an extension
 abbrev pub extended_in : Declaration → List (List ℕ)
 extended_in (Extension name) = option_to_list (bare name)
 extended_in _ = []
 
+-- the types of declarations, in order
 abbrev pub types_in : List Declaration → SetTypes
 types_in ds = record { messages = flat_map message_in ds; enums = flat_map enum_in ds; extended = flat_map extended_in ds }
 

@@ -6,6 +6,7 @@ pub mod JsonFieldNames
 pub mod NameIndex
 pub mod QueueSteps
 pub mod ReachableTypes
+pub mod ReachedClosure
 pub mod SetMethods
 pub mod TextSets
 pub mod WellKnownTypes

@@ -11,6 +11,6 @@ use Rattle.descriptor_pool.specs.ReachableTypes.{Joined, is_of, next, with_joine
 abbrev pub Sees : BTreeSet ℕ → List Joined → Type 0
 Sees seen js = (i : ℕ) → contains nat_cmp seen i ≡ list_any (is_of i) js
 
--- a queue after the message at a place is taken, where there is one
+-- a queue after the message at an index is taken, where there is one
 abbrev pub taken_one : SetTypes → List Joined → ℕ → List Joined
 taken_one types js at = option_map_or (λ j. fold with_joined js (next types j)) (slice_get js at) js

@@ -1,7 +1,7 @@
 -- The messages that the methods of a set reach, in the order of a queue: it begins with the input and output
 -- of each method, in order; when a message is taken, the messages of its fields join, in order; each message
 -- is taken once, where it first stands.
-use Rattle.std.specs.Prelude.{◌++◌, ℕ, zero, suc, Bool, List, [], ◌∷◌, length, take, fold, nat_eq, Option, Some, None, if◌then◌else◌, slice_get}
+use Rattle.std.specs.Prelude.{◌++◌, ℕ, zero, suc, Bool, List, [], ◌∷◌, length, map, take, fold, nat_eq, Option, Some, None, if◌then◌else◌, slice_get}
 use Rattle.std.specs.List.{flat_map, list_any}
 use Rattle.std.specs.Option.{option_map_or}
 use Rattle.descriptor_set.specs.declared.file_set.FieldInfo.{FieldInfo}
@@ -16,6 +16,10 @@ pub record Joined : Type 0 where
   pub message : ℕ
   pub path : List ℕ
 
+-- the messages of items, by their indexes among those of the set
+abbrev pub messages_of : List Joined → List ℕ
+messages_of js = map (λ (j : Joined). j.message) js
+
 -- a message joins, where there is one
 abbrev pub joins : List ℕ → Option ℕ → List Joined
 joins path None = []
@@ -29,6 +33,7 @@ method_roots types m = joins m.path (message_named types m.input) ++ joins m.pat
 abbrev pub field_joins : SetTypes → List ℕ → FieldInfo → List Joined
 field_joins types path f = joins path (field_message types (value_field types f))
 
+-- the messages of fields join, in order
 abbrev pub fields_join : SetTypes → List ℕ → List FieldInfo → List Joined
 fields_join types path fs = flat_map (field_joins types path) fs
 

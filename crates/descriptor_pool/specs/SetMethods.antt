@@ -36,10 +36,11 @@ with_rule path m (Some rule) = record {
   server_streams = m.server_streaming;
 } ∷ []
 
--- the methods of a service, and of a file, that have an annotation, in order
+-- the methods of a service that have an annotation, in order
 abbrev pub service_methods : List ℕ → ServiceInfo → List BoundMethod
 service_methods scope s = flat_map (λ (m : RpcInfo). with_rule (grpc_path scope s.name m.name) m m.http) s.method
 
+-- the methods of a file that have an annotation, in order
 abbrev pub file_methods : FileInfo → List BoundMethod
 file_methods f = flat_map (service_methods f.«package») f.service
 
@@ -51,10 +52,11 @@ bound_methods set = flat_map file_methods set.files
 abbrev pub additional_rules : HttpInfo → List HttpInfo
 additional_rules rule = (out-HttpInfo rule).additional_bindings
 
--- the bindings of methods: of each its rule and then the additional ones
+-- the bindings of a method: its rule and then the additional ones
 abbrev pub method_rules : BoundMethod → List HttpInfo
 method_rules m = m.rule ∷ additional_rules m.rule
 
+-- the bindings of methods, in order
 abbrev pub all_rules : List BoundMethod → List HttpInfo
 all_rules ms = flat_map method_rules ms
 
@@ -67,10 +69,11 @@ http_method (Delete text) = codes "DELETE"
 http_method (Patch text) = codes "PATCH"
 http_method (Custom kind text) = kind
 
--- the HTTP methods of rules, in order; a rule without a pattern has none
+-- the HTTP method of a rule's pattern, where it has one
 abbrev pub pattern_method : Option PatternInfo → List (List ℕ)
 pattern_method None = []
 pattern_method (Some p) = http_method p ∷ []
 
+-- the HTTP methods of rules, in order; a rule without a pattern has none
 abbrev pub rule_methods : List HttpInfo → List (List ℕ)
 rule_methods rules = flat_map (λ (rule : HttpInfo). pattern_method (out-HttpInfo rule).pattern) rules

@@ -50,7 +50,7 @@ abbrev pub is_value : Option ℕ → List FieldInfo → Bool
 is_value None fs = false
 is_value (Some type_number) fs = (length fs == 1) && list_any (is_published (codes "value") 1 type_number false) fs
 
--- the fields of a message of this full name are those with which a well-known type of that name is published
+-- the fields of a message of this full name are those with which this well-known type is published
 abbrev pub are_published_of : Known → List ℕ → List FieldInfo → Bool
 are_published_of Plain name fs = true
 are_published_of Timestamp name fs = are_seconds_and_nanos fs
@@ -58,5 +58,6 @@ are_published_of Duration name fs = are_seconds_and_nanos fs
 are_published_of FieldMask name fs = (length fs == 1) && list_any (is_published (codes "paths") 1 9 true) fs
 are_published_of Wrapper name fs = is_value (wrapped_type name) fs
 
+-- the fields of a message are those with which a well-known type of its full name is published
 abbrev pub are_published : List ℕ → List FieldInfo → Bool
 are_published name fs = are_published_of (known_of name) name fs

@@ -10,9 +10,10 @@ ghost use Rattle.descriptor_pool.specs.ReachableTypes.{fields_at};
 ghost use Rattle.descriptor_pool.specs.TextSets.{has};
 
 use crate::declared_names::{Declaration, Declared};
-use crate::field_types::{VALUE_NUMBER, field_numbered};
+use crate::field_types::field_numbered;
+use base::NoMemory;
+use descriptor_set::descriptor_numbers::ENTRY_VALUE;
 use descriptor_set::{EnumInfo, FieldInfo, FileInfo, MessageInfo};
-use schema::NoMemory;
 use std::alloc::Global;
 use std::collections::{BTreeMap, BTreeSet};
 use std::marker::Model;
@@ -141,7 +142,7 @@ fn put_declared_message<'a>(
     match declaration.declared {
         Declared::Message(file, info) => {
             let name = declaration.name.as_str();
-            let value = field_numbered(info.field.as_slice(), VALUE_NUMBER);
+            let value = field_numbered(info.field.as_slice(), ENTRY_VALUE);
             out.push(DeclaredMessage {
                 name,
                 file,

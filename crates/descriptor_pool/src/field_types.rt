@@ -5,21 +5,7 @@ ghost use Rattle.descriptor_pool.specs.FieldTypes.{entry_value, field_enum, fiel
 
 use crate::declared_types::{DeclaredMessage, SetTypes};
 use descriptor_set::FieldInfo;
-
-/// The label of a field that is neither required nor repeated.
-pub const LABEL_OPTIONAL: i32 = 1;
-
-/// The label of a repeated field.
-pub const LABEL_REPEATED: i32 = 3;
-
-/// The type number of a message.
-pub const TYPE_MESSAGE: i32 = 11;
-
-/// The type number of an enum.
-pub const TYPE_ENUM: i32 = 14;
-
-/// The number of the value of a map's entry.
-pub(crate) const VALUE_NUMBER: i32 = 2;
+use descriptor_set::descriptor_numbers::{LABEL_REPEATED, TYPE_ENUM, TYPE_MESSAGE};
 
 /// True for a repeated field.
 pub fn is_repeated(field: &FieldInfo) -> bool

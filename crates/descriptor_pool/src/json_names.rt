@@ -2,8 +2,8 @@
 ghost use Rattle.std.specs.Prelude.{◌≡◌, map, IfOk};
 ghost use Rattle.descriptor_pool.specs.JsonFieldNames.{camel_name, cased, json_of};
 
+use base::{NoMemory, Text};
 use descriptor_set::FieldInfo;
-use schema::{NoMemory, Text};
 use std::alloc::Global;
 
 /// The character, in upper case where it follows an underscore.

@@ -8,18 +8,15 @@ mod declared_names;
 mod declared_types;
 mod field_types;
 mod json_names;
-mod laws;
+pub mod laws;
 mod queue;
 mod set_methods;
 mod well_known;
 
 pub use declared_names::{Declaration, Declared, declarations_of};
 pub use declared_types::{DeclaredEnum, DeclaredMessage, SetTypes, types_of};
-pub use field_types::{
-    LABEL_OPTIONAL, LABEL_REPEATED, TYPE_ENUM, TYPE_MESSAGE, field_numbered, is_repeated,
-};
+pub use field_types::{field_numbered, is_repeated};
 pub use json_names::{json_names_of, json_of};
-pub use laws::what_is_reached_is_whole;
 pub use queue::{Joined, reachable};
 pub use set_methods::{BoundMethod, bound_methods, rule_methods, rules_of};
 pub use well_known::{are_published, known_of};

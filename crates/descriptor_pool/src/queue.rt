@@ -6,8 +6,8 @@ ghost use Rattle.descriptor_pool.specs.ReachableTypes.{fields_join, joins, metho
 
 use crate::declared_types::SetTypes;
 use crate::set_methods::BoundMethod;
+use base::NoMemory;
 use descriptor_set::FieldInfo;
-use schema::NoMemory;
 use std::alloc::Global;
 use std::collections::BTreeSet;
 use std::marker::Model;
@@ -99,7 +99,7 @@ fn join_fields<'a>(
     Ok(())
 }
 
-/// The path and the message at a place of the queue.
+/// The path and the message at an index of the queue.
 fn item_at<'a>(queue: &[Joined<'a>], at: usize) -> Option<(&'a str, usize)>
     ensures { option_map (λ x. record { message = x.1; path = x.0.now }) result ≡ slice_get queue.now at }
 {
@@ -109,7 +109,7 @@ fn item_at<'a>(queue: &[Joined<'a>], at: usize) -> Option<(&'a str, usize)>
     }
 }
 
-/// Takes the message at a place of the queue, where there is one.
+/// Takes the message at an index of the queue, where there is one.
 fn take_one<'a>(
     types: &SetTypes<'_>,
     queue: &mut Vec<Joined<'a>>,

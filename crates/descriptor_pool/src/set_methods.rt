@@ -4,8 +4,8 @@ ghost use Rattle.descriptor_set.specs.declared.file_set.HttpInfo.{out-HttpInfo};
 ghost use Rattle.descriptor_pool.specs.SetMethods.{all_rules, bound_methods, file_methods, grpc_path, http_method, pattern_method, rule_methods, service_methods, with_rule};
 
 use crate::declared_names::put_name;
+use base::{NoMemory, Text};
 use descriptor_set::{FileInfo, FileSet, HttpInfo, PatternInfo, RpcInfo, ServiceInfo};
-use schema::{NoMemory, Text};
 use std::alloc::Global;
 use std::marker::Model;
 

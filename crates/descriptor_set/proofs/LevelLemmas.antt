@@ -11,6 +11,7 @@ unfolding message_info
 message_none zero v m h e = e
 message_none (suc k) v m h e = absurd (omega arith)
 
+-- a rule in no levels says nothing
 pub rule_none : (k : ℕ) (v : Value) (m : HttpInfo) → k ≡ 0 → m ≡ no_rule → m ≡ rule_info k v
 unfolding rule_info
 rule_none zero v m h e = e
@@ -22,6 +23,7 @@ unfolding message_info
 message_opens zero v m h e = absurd (h refl)
 message_opens (suc k) v m h e = let d : suc k - 1 ≡ k = omega arith in rw d at e
 
+-- a rule in so many levels has those in it with one level less
 pub rule_opens : (k : ℕ) (v : Value) (m : HttpInfo) → (k ≡ 0 → ⊥) → m ≡ rule_by (rule_info (k - 1)) v → m ≡ rule_info k v
 unfolding rule_info
 rule_opens zero v m h e = absurd (h refl)

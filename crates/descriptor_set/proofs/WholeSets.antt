@@ -18,10 +18,9 @@ use Rattle.schema.specs.declared.value.Item.TheOpen.{Number, Truth, Text, Bytes,
 use Rattle.schema.specs.declared.value.Item.{Item, out-Item}
 use Rattle.schema.specs.declared.value.Slot.{Slot, out-Slot}
 use Rattle.schema.specs.declared.value.Value.{Value}
-use Rattle.wire_format.proofs.DecodedIsValid.{valid_answer}
-use Rattle.wire_format.proofs.DecodedItemLemmas.{filter_all}
 use Rattle.wire_format.specs.Decoding.{decoding}
-use Rattle.wire_format.specs.Laws.{AreBytes}
+use Rattle.wire_format.specs.Laws.{DecodedValuesAreValid, DecodesWithoutFault}
+use Rattle.base.specs.Bytes.{AreBytes}
 use Rattle.descriptor_set.specs.DescriptorFields.{message_info, rule_info}
 use Rattle.descriptor_set.specs.DescriptorTypes.{descriptor_types, field_of, kind_of, listed_fields, shape_of, type_of}
 use Rattle.descriptor_set.specs.FieldContents.{as_int32, item_at, item_in, items_in, message_at, message_in, messages_at, messages_in, number_at, number_in}
@@ -31,6 +30,8 @@ use Rattle.descriptor_set.specs.declared.described.Described.TheVariants as in_
 use Rattle.descriptor_set.specs.declared.described.Holds.{Holds}
 use Rattle.descriptor_set.specs.declared.described.Holds.TheVariants as holds
 use Rattle.descriptor_set.proofs.ListedTypes.{listed_sound}
+use Rattle.base.proofs.EachImageLemmas.{each_filtered}
+use Rattle.base.proofs.EachLemmas.{each_weaker}
 
 -- ---- what a field of a valid message holds
 
@@ -67,7 +68,7 @@ module _ (inner : Inner) (fields : List Field) (w : Value) (slots : AreFieldSlot
       each (Pairs ps) h = absurd (h)
       each (Many is) h =
           let all : AllByRecursion (λ (i : Item). IsItem inner (MessageOf id) (out-Item i)) is = subst (λ (k : Kind). AllByRecursion (λ (i : Item). IsItem inner k (out-Item i)) is) kind h.1 in
-          filter_all (λ (i : Item). IsItem inner (MessageOf id) (out-Item i)) (inner.message id) (λ (i : Item). message_in (out-Item i)) (message_of id) is all
+          each_filtered (λ (i : Item). IsItem inner (MessageOf id) (out-Item i)) (inner.message id) (λ (i : Item). message_in (out-Item i)) (message_of id) is all
 
       at : (o : Option Slot) → slot_at w n ≡ o → AllByRecursion (inner.message id) (messages_in (unwrap_or (option_map (λ s. items_in (out-Slot s)) o) []))
       at None k = tt
@@ -96,10 +97,6 @@ map_same : {A B : Type 0} (f g : A → B) (xs : List A) → AllByRecursion (λ x
 map_same f g [] h = refl
 map_same f g (x ∷ xs) h = ap (λ y. y ∷ map f xs) h.0 ∙ ap (λ ys. g x ∷ ys) (map_same f g xs h.1)
 
-all_each : {A : Type 0} (P Q : A → Type 0) → ((x : A) → P x → Q x) → (xs : List A) → AllByRecursion P xs → AllByRecursion Q xs
-all_each P Q each [] h = tt
-all_each P Q each (x ∷ xs) h = (each x h.0, all_each P Q each xs h.1)
-
 -- a message that is valid in so many levels is read alike in any more
 message_same : (k j : ℕ) (w : Value) → (valid_within k descriptor_types).message (type_of in_.Message) w → message_info (j + k) w ≡ message_info k w
 unfolding valid_within message_info
@@ -107,7 +104,7 @@ message_same zero j w h = absurd (h)
 message_same (suc k) j w h =
     let nested = all_messages (valid_within k descriptor_types) (fields_of descriptor_types (type_of in_.Message)) w h.slots 3 (field_of (3, holds.Messages in_.Message)) (type_of in_.Message) refl refl refl in
     let same : map (message_info (j + k)) (messages_at w 3) ≡ map (message_info k) (messages_at w 3) =
-    map_same (message_info (j + k)) (message_info k) (messages_at w 3) (all_each ((valid_within k descriptor_types).message (type_of in_.Message)) (λ v. message_info (j + k) v ≡ message_info k v) (message_same k j) (messages_at w 3) nested) in
+    map_same (message_info (j + k)) (message_info k) (messages_at w 3) (each_weaker ((valid_within k descriptor_types).message (type_of in_.Message)) (λ v. message_info (j + k) v ≡ message_info k v) (message_same k j) (messages_at w 3) nested) in
     let up : j + suc k ≡ suc (j + k) = omega arith in
     rw (up, same) refl
 
@@ -118,7 +115,7 @@ rule_same zero j w h = absurd (h)
 rule_same (suc k) j w h =
     let nested = all_messages (valid_within k descriptor_types) (fields_of descriptor_types (type_of in_.Rule)) w h.slots 11 (field_of (11, holds.Messages in_.Rule)) (type_of in_.Rule) refl refl refl in
     let same : map (rule_info (j + k)) (messages_at w 11) ≡ map (rule_info k) (messages_at w 11) =
-    map_same (rule_info (j + k)) (rule_info k) (messages_at w 11) (all_each ((valid_within k descriptor_types).message (type_of in_.Rule)) (λ v. rule_info (j + k) v ≡ rule_info k v) (rule_same k j) (messages_at w 11) nested) in
+    map_same (rule_info (j + k)) (rule_info k) (messages_at w 11) (each_weaker ((valid_within k descriptor_types).message (type_of in_.Rule)) (λ v. rule_info (j + k) v ≡ rule_info k v) (rule_same k j) (messages_at w 11) nested) in
     let up : j + suc k ≡ suc (j + k) = omega arith in
     rw (up, same) refl
 
@@ -150,27 +147,27 @@ method_whole m h =
 service_whole : (s : Value) → (valid_within 98 descriptor_types).message (type_of in_.Service) s → IsWholeService s
 unfolding valid_within
 service_whole s h =
-    all_each ((valid_within 97 descriptor_types).message (type_of in_.Method)) IsWholeMethod method_whole (messages_at s 2)
+    each_weaker ((valid_within 97 descriptor_types).message (type_of in_.Method)) IsWholeMethod method_whole (messages_at s 2)
     (all_messages (valid_within 97 descriptor_types) (fields_of descriptor_types (type_of in_.Service)) s h.slots 2 (field_of (2, holds.Messages in_.Method)) (type_of in_.Method) refl refl refl)
 
 file_whole : (f : Value) → (valid_within 99 descriptor_types).message (type_of in_.File) f → IsWholeFile f
 unfolding valid_within
 file_whole f h = (
-  all_each ((valid_within 98 descriptor_types).message (type_of in_.Message)) IsWholeMessage message_whole (messages_at f 4)
+  each_weaker ((valid_within 98 descriptor_types).message (type_of in_.Message)) IsWholeMessage message_whole (messages_at f 4)
       (all_messages (valid_within 98 descriptor_types) (fields_of descriptor_types (type_of in_.File)) f h.slots 4 (field_of (4, holds.Messages in_.Message)) (type_of in_.Message) refl refl refl),
-  all_each ((valid_within 98 descriptor_types).message (type_of in_.Service)) IsWholeService service_whole (messages_at f 6)
+  each_weaker ((valid_within 98 descriptor_types).message (type_of in_.Service)) IsWholeService service_whole (messages_at f 6)
       (all_messages (valid_within 98 descriptor_types) (fields_of descriptor_types (type_of in_.File)) f h.slots 6 (field_of (6, holds.Messages in_.Service)) (type_of in_.Service) refl refl refl),
 )
 
 set_whole : (v : Value) → IsValid descriptor_types (type_of in_.Set) v → IsWholeSet v
 unfolding valid_within
 set_whole v h =
-    all_each ((valid_within 99 descriptor_types).message (type_of in_.File)) IsWholeFile file_whole (messages_at v 1)
+    each_weaker ((valid_within 99 descriptor_types).message (type_of in_.File)) IsWholeFile file_whole (messages_at v 1)
     (all_messages (valid_within 99 descriptor_types) (fields_of descriptor_types (type_of in_.Set)) v h.slots 1 (field_of (1, holds.Messages in_.File)) (type_of in_.File) refl refl refl)
 
 -- no level of a set that is decoded is lost
-pub levels_kept : (bytes : List ℕ) (v : Value) → AreBytes bytes → decoding descriptor_types (type_of in_.Set) bytes ≡ Ok v → IsWholeSet v
-levels_kept bytes v b h = set_whole v (valid_answer descriptor_types (type_of in_.Set) bytes (Ok v) b h listed_sound)
+pub levels_kept : DecodesWithoutFault → DecodedValuesAreValid → (bytes : List ℕ) (v : Value) → AreBytes bytes → decoding descriptor_types (type_of in_.Set) bytes ≡ Ok v → IsWholeSet v
+levels_kept exact valid bytes v b h = set_whole v (valid descriptor_types (type_of in_.Set) bytes v listed_sound b ((exact descriptor_types (type_of in_.Set) bytes v).0 h))
 
 -- ---- numbers
 

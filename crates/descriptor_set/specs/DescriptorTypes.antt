@@ -55,7 +55,7 @@ listed_fields in_.CustomPattern = (1, Text) ∷ (2, Text) ∷ []
 abbrev pub all_described : List Described
 all_described = in_.Set ∷ in_.File ∷ in_.Message ∷ in_.MessageOptions ∷ in_.Field ∷ in_.FieldOptions ∷ in_.Oneof ∷ in_.Enum ∷ in_.EnumValue ∷ in_.Service ∷ in_.Method ∷ in_.MethodOptions ∷ in_.Rule ∷ in_.CustomPattern ∷ []
 
--- the type of a message: its place among them
+-- the type of a message: its index among them
 abbrev pub type_of : Described → TypeId
 type_of in_.Set = record { 0 = 0 }
 type_of in_.File = record { 0 = 1 }

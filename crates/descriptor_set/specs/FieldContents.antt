@@ -28,6 +28,7 @@ abbrev pub as_int32 : ℤ → Option ℤ
 as_int32 (pos n) = if nat_lt n (2 ^ 31) then Some (pos n) else None
 as_int32 (negsuc n) = if nat_lt n (2 ^ 31) then Some (negsuc n) else None
 
+-- a number of 32 bits
 abbrev pub number_in : ItemLayer → Option ℤ
 number_in (Number z) = as_int32 z
 number_in _ = None
@@ -50,24 +51,27 @@ item_at v n = option_and_then (λ s. item_in (out-Slot s)) (slot_at v n)
 abbrev pub items_at : Value → ℕ → List Item
 items_at v n = unwrap_or (option_map (λ s. items_in (out-Slot s)) (slot_at v n)) []
 
--- the text of a string field, where it stands; and with the empty text for an absent one
+-- the text of a string field, where it stands
 abbrev pub text_at : Value → ℕ → Option (List ℕ)
 text_at v n = option_and_then (λ i. text_in (out-Item i)) (item_at v n)
 
+-- the text of a string field, the empty one where it is absent
 abbrev pub text_or_empty : Value → ℕ → List ℕ
 text_or_empty v n = unwrap_or (text_at v n) []
 
--- the number of an int32 or enum field, where it stands; and with 0 for an absent one
+-- the number of an int32 or enum field, where it stands
 abbrev pub number_at : Value → ℕ → Option ℤ
 number_at v n = option_and_then (λ i. number_in (out-Item i)) (item_at v n)
 
+-- the number of an int32 or enum field, 0 where it is absent
 abbrev pub number_or_zero : Value → ℕ → ℤ
 number_or_zero v n = unwrap_or (number_at v n) (pos 0)
 
--- the truth value of a bool field, where it stands; and with false for an absent one
+-- the truth value of a bool field, where it stands
 abbrev pub truth_at : Value → ℕ → Option Bool
 truth_at v n = option_and_then (λ i. truth_in (out-Item i)) (item_at v n)
 
+-- the truth value of a bool field, false where it is absent
 abbrev pub truth_or_false : Value → ℕ → Bool
 truth_or_false v n = unwrap_or (truth_at v n) false
 
@@ -75,9 +79,10 @@ truth_or_false v n = unwrap_or (truth_at v n) false
 abbrev pub message_at : Value → ℕ → Option Value
 message_at v n = option_and_then (λ i. message_in (out-Item i)) (item_at v n)
 
--- the messages among items, and of a repeated field, in order
+-- the messages among items, in order
 abbrev pub messages_in : List Item → List Value
 messages_in is = filter_map (λ i. message_in (out-Item i)) is
 
+-- the messages of a repeated field, in order
 abbrev pub messages_at : Value → ℕ → List Value
 messages_at v n = messages_in (items_at v n)

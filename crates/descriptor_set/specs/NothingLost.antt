@@ -7,7 +7,7 @@ use Rattle.schema.specs.declared.value.Item.{Item, out-Item}
 use Rattle.schema.specs.declared.value.Item.TheOpen.{Number}
 use Rattle.schema.specs.declared.value.Value.{Value}
 use Rattle.wire_format.specs.Decoding.{decoding}
-use Rattle.wire_format.specs.Laws.{AreBytes}
+use Rattle.base.specs.Bytes.{AreBytes}
 use Rattle.descriptor_set.specs.DescriptorFields.{message_info, rule_info}
 use Rattle.descriptor_set.specs.DescriptorTypes.{descriptor_types, type_of}
 use Rattle.descriptor_set.specs.FieldContents.{item_at, message_at, messages_at, number_at}
@@ -26,9 +26,11 @@ IsWholeRule v = (j : ℕ) → rule_info (j + 100) v ≡ rule_info 100 v
 abbrev pub rule_value : Value → Option Value
 rule_value m = option_and_then (λ options. message_at options 72295728) (message_at m 4)
 
+-- the rule of a method is read alike in any more levels
 abbrev pub IsWholeMethod : Value → Type 0
 IsWholeMethod m = IfSome (rule_value m) IsWholeRule
 
+-- each rule of the methods of a service is
 abbrev pub IsWholeService : Value → Type 0
 IsWholeService s = AllByRecursion IsWholeMethod (messages_at s 2)
 
@@ -36,6 +38,7 @@ IsWholeService s = AllByRecursion IsWholeMethod (messages_at s 2)
 abbrev pub IsWholeFile : Value → Type 0
 IsWholeFile f = AllByRecursion IsWholeMessage (messages_at f 4) × AllByRecursion IsWholeService (messages_at f 6)
 
+-- each file of a set is
 abbrev pub IsWholeSet : Value → Type 0
 IsWholeSet v = AllByRecursion IsWholeFile (messages_at v 1)
 

@@ -4,7 +4,7 @@ use Rattle.descriptor_set.specs.SetReading.{set_reading}
 use Rattle.descriptor_set.specs.declared.fault.SetFault.TheVariants.{Wire, NotUtf8}
 use Rattle.descriptor_set.specs.declared.file_set.FileInfo.{FileInfo}
 use Rattle.descriptor_set.specs.declared.file_set.MessageInfo.{MessageInfo, roll-MessageInfo}
-use Rattle.wire_format.specs.declared.fault.WireKind.TheVariants.{Short, BadTag}
+use Rattle.wire_records.specs.declared.fault.WireKind.TheVariants.{Short, BadTag}
 
 -- a file that declares nothing
 abbrev pub empty_file : FileInfo

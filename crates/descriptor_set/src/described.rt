@@ -2,6 +2,7 @@
 ghost use Rattle.std.specs.Prelude.{◌≡◌};
 ghost use Rattle.descriptor_set.specs.DescriptorTypes.{listed_fields as listed, type_of};
 
+use crate::descriptor_numbers::HTTP_RULE;
 use schema::TypeId;
 
 /// A message of descriptor.proto or google/api/http.proto.
@@ -108,7 +109,7 @@ pub(crate) fn listed_fields(described: Described) -> &'static [(u32, Holds)]
             (5, Holds::Truth),
             (6, Holds::Truth),
         ],
-        Described::MethodOptions => &[(72295728, Holds::Message(Described::Rule))],
+        Described::MethodOptions => &[(HTTP_RULE, Holds::Message(Described::Rule))],
         Described::Rule => &[
             (2, Holds::Path),
             (3, Holds::Path),
@@ -124,7 +125,7 @@ pub(crate) fn listed_fields(described: Described) -> &'static [(u32, Holds)]
     }
 }
 
-/// The type of a message: its place in `ALL`.
+/// The type of a message: its index in `ALL`.
 #[rattlefmt::skip]
 pub(crate) fn type_id(described: Described) -> TypeId
     ensures { result ≡ type_of described }

@@ -3,9 +3,8 @@ ghost use Rattle.std.specs.Prelude.{◌≡◌, map, IfOk};
 ghost use Rattle.descriptor_set.specs.DescriptorTypes.{descriptor_types as all_types, field_of as listed_field, kind_of as listed_kind, message_type as listed_message, presence_of as listed_presence, shape_of as listed_shape};
 
 use crate::described::{ALL, Described, Holds, listed_fields, type_id};
-use schema::{
-    Field, Kind, Known, List, MessageType, NoMemory, Presence, Scalar, Shape, Text, Types,
-};
+use base::{List, NoMemory, Text};
+use schema::{Field, Kind, Known, MessageType, Presence, Scalar, Shape, Types};
 use std::alloc::Global;
 
 /// What one value is.

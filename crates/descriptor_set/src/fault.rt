@@ -2,10 +2,10 @@
 ghost use Rattle.std.specs.Prelude.{◌≡◌};
 ghost use Rattle.descriptor_set.specs.declared.fault.SetFault.TheVariants.{NoMemory as no_memory};
 
-use schema::NoMemory;
+use base::NoMemory;
 use std::error::Error;
 use std::fmt;
-use wire_format::{WireFault, WireKind};
+use wire_records::WireFault;
 
 /// Why a descriptor set is not read.
 #[derive(Debug, Clone, Copy, PartialEq, Eq)]
@@ -28,27 +28,13 @@ impl From<NoMemory> for SetFault {
     }
 }
 
-/// What is wrong, in words.
-fn wrong(kind: WireKind) -> &'static str {
-    match kind {
-        WireKind::Short => "passes its end",
-        WireKind::LongVarint => "has a varint that is too long",
-        WireKind::BadTag => "has a bad tag",
-        WireKind::BadGroup => "is in no whole group",
-        WireKind::TooDeep => "is nested too deep",
-    }
-}
-
 impl fmt::Display for SetFault {
     fn fmt<W: fmt::Write>(&self, f: &mut fmt::Formatter<W>) -> fmt::Result {
         match self {
-            SetFault::Wire(fault) => {
-                let wrong = wrong(fault.kind);
-                write!(f, "the record at {} {wrong}", fault.place)
-            }
-            SetFault::NotUtf8(place) => write!(f, "the string at {place} is not UTF-8"),
-            SetFault::TooLong => write!(f, "the descriptor set is too long"),
-            SetFault::NoMemory => write!(f, "out of memory"),
+            SetFault::Wire(fault) => write!(f, "{fault}"),
+            SetFault::NotUtf8(place) => write!(f, "NotUtf8 at {place}"),
+            SetFault::TooLong => write!(f, "TooLong"),
+            SetFault::NoMemory => write!(f, "{}", NoMemory),
         }
     }
 }

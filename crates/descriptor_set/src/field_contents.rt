@@ -3,7 +3,8 @@ ghost use Rattle.std.specs.Prelude.{◌≡◌, map, IfOk};
 ghost use Rattle.std.specs.Option.{option_copied};
 ghost use Rattle.descriptor_set.specs.FieldContents as held;
 
-use schema::{Item, NoMemory, Slot, Text, Value};
+use base::{NoMemory, Text};
+use schema::{Item, Slot, Value};
 use std::alloc::Global;
 
 /// The item of a singular field, where it stands.

@@ -1,7 +1,8 @@
 //! What a descriptor set declares (descriptor.proto, google/api/http.proto). An absent text is empty,
 //! an absent number 0 and an absent truth value false, but where an Option tells absence.
 
-use schema::{EnumValue, List, Text};
+use base::{List, Text};
+use schema::EnumValue;
 
 /// FileDescriptorSet.
 #[derive(Drop)]

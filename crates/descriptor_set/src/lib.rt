@@ -7,22 +7,21 @@
 #![tactic(auto)]
 
 mod described;
+pub mod descriptor_numbers;
 mod descriptor_types;
-mod examples;
+pub mod examples;
 mod fault;
 mod field_contents;
 mod file_set;
-mod laws;
+pub mod laws;
 mod message_reader;
 mod rule_reader;
 mod service_reader;
 mod set_reader;
 
-pub use examples::set_examples;
 pub use fault::SetFault;
 pub use file_set::{
     EnumInfo, FieldInfo, FileInfo, FileSet, HttpInfo, MessageInfo, PatternInfo, RpcInfo,
     ServiceInfo,
 };
-pub use laws::nothing_is_lost;
 pub use set_reader::{MAX_SET_BYTES, read_set};

@@ -1,14 +1,14 @@
 //! Messages, their fields, oneofs and enums (descriptor.proto), by their values.
-ghost use Rattle.std.specs.Prelude.{◌≡◌, map, IfOk};
+ghost use Rattle.std.specs.Prelude.{◌≡◌, map, IfOk, option_and_then};
 ghost use Rattle.descriptor_set.specs.DescriptorFields.{enum_info, enum_value, field_info, message_by, message_info, message_option, no_message as declares_nothing, oneof_name};
 ghost use Rattle.descriptor_set.specs.FieldContents.{truth_at, message_at};
-ghost use Rattle.std.specs.Prelude.{option_and_then};
 
 use crate::field_contents::{
     int, int_or_zero, is_set, message, messages, text, text_or_empty, truth,
 };
 use crate::file_set::{EnumInfo, FieldInfo, MessageInfo};
-use schema::{EnumValue, List, NoMemory, Text, Value};
+use base::{List, NoMemory, Text};
+use schema::{EnumValue, Value};
 use std::alloc::Global;
 
 /// EnumValueDescriptorProto.

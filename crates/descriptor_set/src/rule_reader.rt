@@ -4,13 +4,12 @@ ghost use Rattle.descriptor_set.specs.DescriptorFields.{custom_pattern, no_rule 
 ghost use Rattle.std.specs.Option.{option_copied};
 ghost use Rattle.descriptor_set.specs.FieldContents.{message_at};
 
+use crate::descriptor_numbers::HTTP_RULE;
 use crate::field_contents::{message, messages, text, text_or_empty};
 use crate::file_set::{HttpInfo, PatternInfo};
-use schema::{List, NoMemory, Text, Value};
+use base::{List, NoMemory, Text};
+use schema::{MAX_LEVELS, Value};
 use std::alloc::Global;
-
-/// The levels of rules that are entered at most, which is the depth limit of decoding.
-const MAX_LEVELS: u32 = 100;
 
 /// CustomHttpPattern.
 fn read_custom(alloc: Global, value: &Value) -> Result<PatternInfo, NoMemory>
@@ -102,7 +101,7 @@ fn rule_of(method: &Value) -> Option<&Value>
     ensures { option_copied result ≡ option_and_then (λ options. message_at options 72295728) (message_at method.now 4) }
 {
     match message(method, 4) {
-        Some(options) => message(options, 72295728),
+        Some(options) => message(options, HTTP_RULE),
         None => None,
     }
 }

@@ -5,7 +5,8 @@ ghost use Rattle.descriptor_set.specs.DescriptorFields.{method_info, service_inf
 use crate::field_contents::{is_set, messages, text_or_empty};
 use crate::file_set::{RpcInfo, ServiceInfo};
 use crate::rule_reader::read_http;
-use schema::{List, NoMemory, Value};
+use base::{List, NoMemory};
+use schema::Value;
 use std::alloc::Global;
 
 /// MethodDescriptorProto.

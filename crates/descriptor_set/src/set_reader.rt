@@ -10,16 +10,14 @@ use crate::field_contents::{int_or_zero, messages, text_or_empty};
 use crate::file_set::{FileInfo, FileSet};
 use crate::message_reader::{read_enums, read_fields, read_messages};
 use crate::service_reader::read_services;
-use schema::{List, NoMemory, Value};
+use base::{List, NoMemory};
+use schema::{MAX_LEVELS, Value};
 use std::alloc::Global;
 use wire_format::{DecodeFault, decode};
 
 /// The most bytes that a descriptor set may have: 16 MiB, which is past the sets of large companies'
 /// whole interfaces.
 pub const MAX_SET_BYTES: usize = 16_777_216;
-
-/// The levels of messages that are entered at most, which is the depth limit of decoding.
-const MAX_LEVELS: u32 = 100;
 
 /// FileDescriptorProto.
 fn read_file(alloc: Global, value: &Value) -> Result<FileInfo, NoMemory>

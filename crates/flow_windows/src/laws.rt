@@ -1,7 +1,7 @@
 //! Laws over lists of calls: each state is the sum that its calls say (RFC 9113, section 6.9.1).
 
-ghost use Rattle.std.specs.Prelude.{◌≡◌, List, ℤ, ◌+ℤ◌};
-ghost use Rattle.flow_windows.specs.Window.{WindowCall, IsWindowSize, MayChangeAll, AllCount, window_after_all, changes_of, sum_of_changes};
+ghost use Rattle.std.specs.Prelude.{◌≡◌, ◌≤◌, List, ℕ, ℤ, pos, ◌+ℤ◌};
+ghost use Rattle.flow_windows.specs.Window.{max_window_size, WindowCall, IsWindowSize, MayChangeAll, AllCount, window_after_all, changes_of, sum_of_changes, IsInReach, MayFollowAll};
 ghost use Rattle.flow_windows.specs.Receipt.{Allowance, ReceiptCall, MayCountAll, IsSumOfCalls, allowance_after_all};
 
 /// After any list of calls of a `Window` it is what it was and the sum of the changes that were
@@ -13,6 +13,13 @@ pub fn window_is_sum_of_calls()
         → IsWindowSize start → MayChangeAll start calls → IsWindowSize (window_after_all start calls) }
     ensures all { (start : ℤ) (calls : List WindowCall)
         → AllCount start calls → window_after_all start calls ≡ start +ℤ sum_of_changes calls }
+{}
+
+/// A `Window` is moved from the initial size that it was made or last moved with to any other: the
+/// lower end is never passed, whatever calls came.
+pub fn resizes_stay_in_range()
+    ensures { (initial : ℕ) (size : ℤ) (calls : List WindowCall) → initial ≤ max_window_size
+        → IsInReach initial size → MayFollowAll initial size calls → MayChangeAll size calls }
 {}
 
 /// After any list of calls of a `Receipt` what the peer may send, what was consumed and what is

@@ -6,14 +6,13 @@
 //! window to send and `Receipt::new` for one to receive.
 #![tactic(auto)]
 
-mod laws;
+pub mod laws;
 mod receipt;
 mod sizes;
 #[cfg(test)]
 mod tests;
 mod window;
 
-pub use laws::{receipt_is_sum_of_calls, window_is_sum_of_calls};
 pub use receipt::{Exceeded, Receipt};
 pub use sizes::{DEFAULT_WINDOW_SIZE, MAX_WINDOW_SIZE};
 pub use window::{Overflow, Window};

@@ -1,6 +1,6 @@
 //! The receiving side of one window (RFC 9113, section 6.9.1).
 
-ghost use Rattle.std.specs.Prelude.{◌≡◌, ◌+◌, ◌-◌, ◌<◌, ◌≤◌, ◌↔◌, IsErr, OnOk, OnErr};
+ghost use Rattle.std.specs.Prelude.{◌≡◌, ◌+◌, ◌*◌, ◌-◌, ◌<◌, ◌≤◌, ◌↔◌, IsErr, OnOk, OnErr};
 ghost use Rattle.flow_windows.specs.Receipt.{due_of, allowance_after, Received, Consumed, Granted};
 
 use std::marker::Model;
@@ -76,6 +76,9 @@ impl Receipt {
     pub fn due(&self) -> u32
         ensures due { result ≡ due_of self.now }
         ensures parts { self.now.rest + self.now.consumed + self.now.held ≡ self.now.full }
+        // Where nothing is due and nothing held, more than half of the window is left.
+        ensures open { 0 < self.now.full → result ≡ 0 → self.now.held ≡ 0
+            → self.now.full < 2 * self.now.rest }
     {
         if self.rest <= self.full / 2 {
             self.consumed

@@ -1,7 +1,7 @@
 //! The sending side of one window (RFC 9113, sections 6.9.1 and 6.9.2).
 
 ghost use Rattle.std.specs.Prelude.{◌≡◌, ◌≤◌, ◌<◌, ◌↔◌, IsErr, IfOk, OnOk, OnErr, pos, negsuc, ◌+ℤ◌, ◌-ℤ◌, ◌<ℤ◌, ◌≤ℤ◌};
-ghost use Rattle.flow_windows.specs.Window.{IsWindowSize, room_of, window_after, Grant, Resize, Spend};
+ghost use Rattle.flow_windows.specs.Window.{max_window_size, IsWindowSize, IsInReach, room_of, window_after, Grant, Resize, Spend};
 
 use crate::sizes::MAX_WINDOW_SIZE;
 use std::marker::Model;
@@ -33,7 +33,7 @@ impl Model for Window {
 fn changed(size: i32, change: i64) -> Result<i32, Overflow>
     requires low { negsuc 2147483647 ≤ℤ (size +ℤ change) }
     requires high { change ≤ℤ pos 4294967295 }
-    ensures refused { IsErr result ↔ (pos MAX_WINDOW_SIZE <ℤ (size +ℤ change)) }
+    ensures refused { IsErr result ↔ (pos max_window_size <ℤ (size +ℤ change)) }
     ensures ok { IfOk result (λ now. now ≡ size +ℤ change) }
 {
     let sum = i64::from(size) + change;
@@ -47,49 +47,40 @@ fn changed(size: i32, change: i64) -> Result<i32, Overflow>
 impl Window {
     /// A window of `size` bytes.
     pub fn new(size: u32) -> Window
-        requires { size ≤ MAX_WINDOW_SIZE }
+        requires { size ≤ max_window_size }
         ensures size { result ≡ pos size }
         ensures range { IsWindowSize result }
+        ensures reach { IsInReach size result }
     {
         Window { size: size as i32 }
     }
 
     /// Adds the increment of a WINDOW_UPDATE (RFC 9113, section 6.9.1).
     pub fn grant(&mut self, n: u32) -> Result<(), Overflow>
-        ensures refused { IsErr result ↔ (pos MAX_WINDOW_SIZE <ℤ (self.old +ℤ pos n)) }
+        ensures refused { IsErr result ↔ (pos max_window_size <ℤ (self.old +ℤ pos n)) }
         ensures ok { OnOk result (self.new ≡ self.old +ℤ pos n) }
         ensures err { OnErr result (self.new ≡ self.old) }
         ensures step { self.new ≡ window_after self.old (Grant n) }
         ensures range { IsWindowSize self.new }
     {
-        match changed(self.size, i64::from(n)) {
-            Ok(size) => {
-                self.size = size;
-                Ok(())
-            }
-            Err(overflow) => Err(overflow),
-        }
+        self.size = changed(self.size, i64::from(n))?;
+        Ok(())
     }
 
     /// Moves the window as SETTINGS_INITIAL_WINDOW_SIZE goes from `old` to `new` (RFC 9113,
     /// section 6.9.2). It may become negative.
     pub fn resize(&mut self, old: u32, new: u32) -> Result<(), Overflow>
-        requires old { old ≤ MAX_WINDOW_SIZE }
-        requires new { new ≤ MAX_WINDOW_SIZE }
+        requires old { old ≤ max_window_size }
+        requires new { new ≤ max_window_size }
         requires low { negsuc 2147483647 ≤ℤ (self.old +ℤ (pos new -ℤ pos old)) }
-        ensures refused { IsErr result ↔ (pos MAX_WINDOW_SIZE <ℤ (self.old +ℤ (pos new -ℤ pos old))) }
+        ensures refused { IsErr result ↔ (pos max_window_size <ℤ (self.old +ℤ (pos new -ℤ pos old))) }
         ensures ok { OnOk result (self.new ≡ self.old +ℤ (pos new -ℤ pos old)) }
         ensures err { OnErr result (self.new ≡ self.old) }
         ensures step { self.new ≡ window_after self.old (Resize old new) }
         ensures range { IsWindowSize self.new }
     {
-        match changed(self.size, i64::from(new) - i64::from(old)) {
-            Ok(size) => {
-                self.size = size;
-                Ok(())
-            }
-            Err(overflow) => Err(overflow),
-        }
+        self.size = changed(self.size, i64::from(new) - i64::from(old))?;
+        Ok(())
     }
 
     /// Takes off `n` bytes that are sent.

@@ -1,7 +1,7 @@
 -- Files in memory.
 use Rattle.std.specs.Prelude.{ℕ, List, [], ◌∷◌, Option, Some, None, if◌then◌else◌}
 use Rattle.std.specs.Str.{bytes_eq}
-use Rattle.gate_world.specs.declared.fixed_files.NamedBytes.{NamedBytes}
+use Rattle.gate_world.specs.declared.in_memory.fixed_files.NamedBytes.{NamedBytes}
 
 -- the bytes of the first file with a path
 abbrev pub file_in : List NamedBytes → List ℕ → Option (List ℕ)

@@ -1,7 +1,7 @@
 -- A sink in memory: what a write takes.
 use Rattle.std.specs.Prelude.{◌-◌, ◌==◌, ◌||◌, ◌&&◌, ℕ, Bool, List, length, min, not, nat_le}
 use Rattle.gate_world.specs.NumberedCalls.{is_listed}
-use Rattle.gate_world.specs.declared.fixed_sink.FixedSink.{FixedSink}
+use Rattle.gate_world.specs.declared.in_memory.fixed_sink.FixedSink.{FixedSink}
 
 -- the room that is left
 abbrev pub room_left : FixedSink → ℕ

@@ -1,7 +1,9 @@
+pub use Rattle.http_rules.specs.Tokens
 pub mod Causes
 pub mod Sources
 pub mod Sinks
 pub mod Policies
+pub mod Refusals
 pub mod NumberedCalls
 pub mod FixedRoom
 pub mod FixedOutside

@@ -1,7 +1,7 @@
 -- Calls in memory that are counted from 0, of which those of listed numbers fail.
 use Rattle.std.specs.Prelude.{◌≡◌, ◌+◌, ◌-◌, ◌^◌, ℕ, Bool, List, min, nat_eq}
 use Rattle.std.specs.List.{list_any}
-use Rattle.gate_world.specs.declared.numbered.Numbered.{Numbered}
+use Rattle.gate_world.specs.declared.in_memory.numbered.Numbered.{Numbered}
 
 -- the number of the next call is listed
 abbrev pub is_listed : Numbered → Bool

@@ -1,25 +1,25 @@
 //! The outside as traits: files, what comes in, what goes out, and which header fields pass. What
-//! stands in memory for each of them is here too.
+//! stands in memory for each of them is here too, and the table of causes for which a request is
+//! refused.
 //!
 //! Contracts speak of the outside by optional contents and by counts of faults: a call answers
 //! `Failed` only where its count rose. Begin with `Source` and `Sink`.
 #![tactic(auto)]
 
 mod files;
-mod fixed_files;
-mod fixed_sink;
-mod fixed_source;
-mod numbered;
+mod in_memory;
 mod policy;
+mod refusal;
 mod sink;
 mod source;
+mod value_fault;
 mod writing;
 
 pub use files::Files;
-pub use fixed_files::{FixedFiles, NamedBytes};
-pub use fixed_sink::FixedSink;
-pub use fixed_source::FixedSource;
+pub use in_memory::{FixedFiles, FixedSink, FixedSource, NamedBytes};
 pub use policy::{NoFields, Policy};
+pub use refusal::{Detail, Refusal};
 pub use sink::{Sink, Wrote};
 pub use source::{Read, Source};
+pub use value_fault::ValueFault;
 pub use writing::{WriteFailed, write_all};

@@ -3,21 +3,27 @@ use Rattle.std.proofs.Common.{◌≡◌, ◌≤◌, ◌<◌, ℕ, List, [], leng
 use Rattle.std.proofs.lemmas.Bool.Decides.{nat_tests}
 use Rattle.std.proofs.lemmas.List.{append-nil, take_all, length-take-le}
 use Rattle.gate_world.specs.Sinks.{Gains, GainsPrefix}
-use Rattle.descriptor_set.specs.SetReading.{set_reading}
+use Rattle.descriptor_set.specs.SetReading.{IsReading, set_reading}
+use Rattle.descriptor_set.specs.declared.fault.SetFault.{SetFault}
 use Rattle.descriptor_set.specs.declared.fault.SetFault.TheVariants as unread
+use Rattle.descriptor_set.specs.declared.file_set.FileSet.{FileSet}
 use Rattle.gateway_run.specs.Commands.{BindWords}
 use Rattle.gateway_run.specs.DescriptorLines.{descriptor_line}
 use Rattle.gateway_run.specs.OneRoute.{HasRoute, OneRoute, one_route}
-use Rattle.gateway_run.specs.Outcomes.{AnswersTold, Gives, IsLine, IsOutput, IsRefusedBy, Ran, refusal_line, stop_line, stop_status}
+use Rattle.gateway_run.specs.Outcomes.{AnswersTold, Gives, IsLine, IsOutput, IsRefusedBy, Ran, stop_line, stop_status, unlinked_stop, unread_stop}
+use Rattle.gateway_run.specs.RefusalLines.{refusal_line}
 use Rattle.gateway_run.specs.RequestMeaning.{IsPrinted, IsRefusal}
 use Rattle.gateway_run.specs.ServedSet.{Declares, IsUnserved, Serves}
 use Rattle.gateway_run.specs.declared.descriptor_fault.DescriptorFault.{DescriptorFault}
 use Rattle.gateway_run.specs.declared.descriptor_fault.DescriptorFault.TheVariants as faults
-use Rattle.gateway_run.specs.declared.refusal.Refusal.{Refusal}
+use Rattle.gateway_run.specs.declared.refusal.RequestRefusal.{RequestRefusal}
 use Rattle.gateway_run.specs.declared.status.Stop.{Stop}
 use Rattle.gateway_run.specs.declared.status.Stop.TheVariants as stop
 use Rattle.gateway_run.specs.declared.status.Status.TheVariants as status
+use Rattle.schema_link.specs.SetApi.{IsLinkOf}
 use Rattle.schema_link.specs.declared.api.Api.{Api}
+use Rattle.set_faults.specs.declared.fault.LinkFault.{LinkFault}
+use Rattle.set_faults.specs.declared.fault.LinkFault.TheVariants as link
 
 -- ---- the front of a file that is longer than a set may be is too
 
@@ -49,10 +55,38 @@ file_declares : (file bytes : List ℕ) (api : Api) → bytes ≡ take 16777217 
 file_declares file bytes api e d = record { set = d.set; read = sym (reading_front file bytes e) ∙ d.read; linked = d.linked }
 
 file_unserved : (file bytes : List ℕ) (f : DescriptorFault) → bytes ≡ take 16777217 file → IsUnserved bytes f → IsUnserved file f
-file_unserved file bytes (faults.Wire w) e h = sym (reading_front file bytes e) ∙ h
-file_unserved file bytes (faults.NotUtf8 place) e h = sym (reading_front file bytes e) ∙ h
-file_unserved file bytes faults.TooLong e h = sym (reading_front file bytes e) ∙ h
-file_unserved file bytes (faults.Link kind name second) e h = record { set = h.set; read = sym (reading_front file bytes e) ∙ h.read; refused = h.refused }
+file_unserved file bytes (faults.Unread f) e h = sym (reading_front file bytes e) ∙ h
+file_unserved file bytes (faults.Unlinked link.NoMemory) e h = h
+file_unserved file bytes (faults.Unlinked (link.At kind name second)) e h = record { set = h.set; read = sym (reading_front file bytes e) ∙ h.read; refused = h.refused }
+
+-- ---- what bytes serve
+
+-- a set that is not read stops a command, but where memory is wanting
+pub other_unread : (f : SetFault) → (f ≡ unread.NoMemory → ⊥) → stop.Descriptors (faults.Unread f) ≡ unread_stop f
+other_unread (unread.Wire w) n = refl
+other_unread (unread.NotUtf8 place) n = refl
+other_unread unread.TooLong n = refl
+other_unread unread.NoMemory n = absurd (n refl)
+
+-- the same of a set that is not linked
+pub other_unlinked : (f : LinkFault) → (f ≡ link.NoMemory → ⊥) → stop.Descriptors (faults.Unlinked f) ≡ unlinked_stop f
+other_unlinked (link.At kind name second) n = refl
+other_unlinked link.NoMemory n = absurd (n refl)
+
+-- bytes that are not read as a set
+pub unread_gives : (G : Api → Type 0) (bytes : List ℕ) (f : SetFault) (e : Stop) → IsReading (Err f) (set_reading bytes) → e ≡ unread_stop f
+    → Gives {A = Api} G (IsUnserved bytes) (λ _. ⊥) ⊥ (Err e)
+unread_gives G bytes (unread.Wire w) e h s = subst (λ (z : Stop). Gives {A = Api} G (IsUnserved bytes) (λ _. ⊥) ⊥ (Err z)) (sym s) h
+unread_gives G bytes (unread.NotUtf8 place) e h s = subst (λ (z : Stop). Gives {A = Api} G (IsUnserved bytes) (λ _. ⊥) ⊥ (Err z)) (sym s) h
+unread_gives G bytes unread.TooLong e h s = subst (λ (z : Stop). Gives {A = Api} G (IsUnserved bytes) (λ _. ⊥) ⊥ (Err z)) (sym s) h
+unread_gives G bytes unread.NoMemory e h s = subst (λ (z : Stop). Gives {A = Api} G (IsUnserved bytes) (λ _. ⊥) ⊥ (Err z)) (sym s) tt
+
+-- a set that is read, and is not linked
+pub unlinked_gives : (G : Api → Type 0) (bytes : List ℕ) (set : FileSet) (f : LinkFault) (e : Stop) → set_reading bytes ≡ Ok set → IsLinkOf set (Err f) → e ≡ unlinked_stop f
+    → Gives {A = Api} G (IsUnserved bytes) (λ _. ⊥) ⊥ (Err e)
+unlinked_gives G bytes set (link.At kind name second) e r l s =
+    subst (λ (z : Stop). Gives {A = Api} G (IsUnserved bytes) (λ _. ⊥) ⊥ (Err z)) (sym s) (record { set = set; read = r; refused = l })
+unlinked_gives G bytes set link.NoMemory e r l s = subst (λ (z : Stop). Gives {A = Api} G (IsUnserved bytes) (λ _. ⊥) ⊥ (Err z)) (sym s) tt
 
 -- ---- each way to end
 
@@ -63,7 +97,7 @@ unserved_told (Some file) bytes f e h = file_unserved file bytes f e h
 file_serves : (file bytes : List ℕ) (route : OneRoute) → bytes ≡ take 16777217 file → Serves bytes route → Serves file route
 file_serves file bytes route e s = record { api = s.api; declares = file_declares file bytes s.api e s.declares; route_is = s.route_is }
 
-refused_told : (told : Option (List ℕ)) (bytes : List ℕ) (c : BindWords) (r : Refusal) (route : OneRoute) → IfSome told (λ file. bytes ≡ take 16777217 file) → Serves bytes route → IsRefusal route c.method c.target r → IfSome told (λ file. IsRefusedBy file c r)
+refused_told : (told : Option (List ℕ)) (bytes : List ℕ) (c : BindWords) (r : RequestRefusal) (route : OneRoute) → IfSome told (λ file. bytes ≡ take 16777217 file) → Serves bytes route → IsRefusal route c.method c.target r → IfSome told (λ file. IsRefusedBy file c r)
 refused_told None bytes c r route f s i = tt
 refused_told (Some file) bytes c r route f s i = record { route = route; serves = file_serves file bytes route f s; refused = i }
 
@@ -72,7 +106,7 @@ output_told None bytes c out route f s p = tt
 output_told (Some file) bytes c out route f s p = record { route = route; serves = file_serves file bytes route f s; printed = p }
 
 -- a set that is not linked
-pub link_stops : {A B : Type 0} (G : A → Type 0) (H : B → Type 0) (R : Refusal → Type 0) (F : Type 0) (told : Option (List ℕ)) (bytes : List ℕ) → IfSome told (λ file. bytes ≡ take 16777217 file) → (e : Stop)
+pub link_stops : {A B : Type 0} (G : A → Type 0) (H : B → Type 0) (R : RequestRefusal → Type 0) (F : Type 0) (told : Option (List ℕ)) (bytes : List ℕ) → IfSome told (λ file. bytes ≡ take 16777217 file) → (e : Stop)
     → Gives {A = A} G (IsUnserved bytes) (λ _. ⊥) ⊥ (Err e) → Gives {A = B} H (λ f. IfSome told (λ file. IsUnserved file f)) R F (Err e)
 link_stops G H R F told bytes f stop.Usage g = absurd g
 link_stops G H R F told bytes f (stop.Descriptors fault) g = unserved_told told bytes fault f g
@@ -109,7 +143,7 @@ fault_told : (told : Option (List ℕ)) (f : DescriptorFault) → IfSome told (�
 fault_told None f h = tt
 fault_told (Some file) f h = (f, h, refl)
 
-refusal_told : (told : Option (List ℕ)) (c : BindWords) (r : Refusal) → IfSome told (λ file. IsRefusedBy file c r) → IfSome told (λ file. (q : Refusal) × IsRefusedBy file c q × (refusal_line r ≡ refusal_line q))
+refusal_told : (told : Option (List ℕ)) (c : BindWords) (r : RequestRefusal) → IfSome told (λ file. IsRefusedBy file c r) → IfSome told (λ file. (q : RequestRefusal) × IsRefusedBy file c q × (refusal_line r ≡ refusal_line q))
 refusal_told None c r h = tt
 refusal_told (Some file) c r h = (r, h, refl)
 
@@ -128,12 +162,14 @@ pub wrote : (told : Option (List ℕ)) (c : BindWords) (out : List ℕ) (old new
 wrote None c out old new h g = tt
 wrote (Some file) c out old new h g = (out, h, g)
 
+-- the same of a part of it
 pub wrote_part : (told : Option (List ℕ)) (c : BindWords) (out : List ℕ) (old new : Option (List ℕ)) → IfSome told (λ file. IsOutput file c out) → GainsPrefix old new out → IfSome told (λ file. (bytes : List ℕ) × IsOutput file c bytes × GainsPrefix old new bytes)
 wrote_part None c out old new h g = tt
 wrote_part (Some file) c out old new h g = (out, h, g)
 
 -- ---- the line
 
+-- nothing is gained where nothing is written
 pub unwritten : (o : Option (List ℕ)) → Gains o o []
 unwritten None = tt
 unwritten (Some xs) = ap Some (sym (append-nil xs))

@@ -5,11 +5,9 @@ use Rattle.std.proofs.lemmas.List.{append-nil, take_more}
 use Rattle.std.specs.List.{AllByRecursion}
 use Rattle.gateway_run.specs.PathPieces.{HasNoSlash, IsPieceEnd, BeginsWithPiece, TakesPiece, EachTakesPiece, TakeAll, piece_span}
 use Rattle.schema_link.specs.ServedTemplates.{is_one_segment, IsTemplateOf}
-use Rattle.http_rules.proofs.RangeLemmas.{range_within}
-use Rattle.http_rules.proofs.SpanLemmas.{literal_no_slash, literal_all, parts_segments, spans_inside}
 use Rattle.http_rules.specs.PercentDecoding.{variable_segments}
-use Rattle.http_rules.specs.Template.{IsSegment, IsTemplate, segments_of, verb_text}
-use Rattle.http_rules.specs.TemplateMatch.{IsPath, slashed, EachTakes, shares, span_between, span_of, Matches, Fits}
+use Rattle.http_rules.specs.Template.{IsLiteral, IsSegment, verb_text}
+use Rattle.http_rules.specs.TemplateMatch.{AreSpansOf, IsPath, slashed, EachTakes, shares, span_between, span_of, Matches, Fits}
 use Rattle.http_rules.specs.declared.template.Segment.{Segment}
 use Rattle.http_rules.specs.declared.template.Segment.TheVariants.{Literal, One, Rest}
 use Rattle.http_rules.specs.declared.template.Template.{Template}
@@ -22,9 +20,11 @@ all_suc P n [] d h a p = absurd (omega arith)
 all_suc P zero (x ∷ xs) d h a p = (p, tt)
 all_suc P (suc n) (x ∷ xs) d h a p = (a.0, all_suc P n xs d (omega arith) a.1 p)
 
+-- what holds of the first items and of the next holds of one more
 pub all_step : {X : Type 0} (P : X → Type 0) (n : ℕ) (xs : List X) (d : X) → n < length xs → AllByRecursion P (take n xs) → P (get_or xs n d) → AllByRecursion P (take (n + 1) xs)
 all_step P n xs d h a p = let on : suc n ≡ n + 1 = omega arith in subst (λ k. AllByRecursion P (take k xs)) on (all_suc P n xs d h a p)
 
+-- a piece ends at an offset, where a slash stands or nothing follows
 pub end_at : (n : ℕ) (xs : List ℕ) (d : ℕ) → n ≤ length xs → (n < length xs → get_or xs n d ≡ 47) → IsPieceEnd (drop n xs)
 end_at zero [] d l h = tt
 end_at zero (x ∷ xs) d l h = h (omega arith)
@@ -58,6 +58,7 @@ split path piece more p ps b n w = cut piece p more (slashed ps) b.no_slash n b.
 
 -- ---- segments take the pieces in order
 
+-- where a segment takes the first piece, the others take what follows
 pub taken_on : (s : Segment) (ss : List Segment) (path piece more : List ℕ) → BeginsWithPiece path piece more → TakesPiece s piece → TakeAll ss more ↔ TakeAll (s ∷ ss) path
 taken_on s ss path piece more b t = (
   (λ h. (piece ∷ h.0, ((t, b.no_slash), h.1), b.written ∙ ap (λ z. 47 ∷ (piece ++ z)) h.2)),
@@ -68,6 +69,7 @@ taken_on s ss path piece more b t = (
     back [] e w = absurd e
     back (p ∷ ps) e w = (ps, e.1, (split path piece more p ps b e.0.1 w).1)
 
+-- where a segment does not take the first piece, they do not take all
 pub not_taken : (s : Segment) (ss : List Segment) (path piece more : List ℕ) → BeginsWithPiece path piece more → (TakesPiece s piece → ⊥) → TakeAll (s ∷ ss) path → ⊥
 not_taken s ss path piece more b other h = on h.0 h.1 h.2
   where
@@ -75,6 +77,7 @@ not_taken s ss path piece more b other h = on h.0 h.1 h.2
     on [] e w = absurd e
     on (p ∷ ps) e w = other (subst (TakesPiece s) (sym (split path piece more p ps b e.0.1 w).0) e.0.0)
 
+-- segments take nothing of a path without a piece
 pub no_piece : (s : Segment) (ss : List Segment) (path : List ℕ) → ((p : List ℕ) → path ≢ 47 ∷ p) → TakeAll (s ∷ ss) path → ⊥
 no_piece s ss path other h = on h.0 h.1 h.2
   where
@@ -82,6 +85,7 @@ no_piece s ss path other h = on h.0 h.1 h.2
     on [] e w = absurd e
     on (p ∷ ps) e w = other (p ++ slashed ps) w
 
+-- no segments take the empty path alone
 pub at_end : (path : List ℕ) → TakeAll [] path ↔ (path ≡ [])
 at_end path = ((λ h. on h.0 h.1 h.2), (λ e. ([], tt, e)))
   where
@@ -127,6 +131,7 @@ suc_more (suc i) (p ∷ ps) h =
     let r = suc_more i ps (omega arith) in
     omega (arith, r, length-append p (slashed (take i ps)), length-append p (slashed (take (suc i) ps)))
 
+-- the piece of an index ends behind its slash and its bytes
 pub one_more : (i : ℕ) (ps : List (List ℕ)) → i < length ps → length (slashed (take (i + 1) ps)) ≡ length (slashed (take i ps)) + 1 + length (get_or ps i [])
 one_more i ps h = let on : i + 1 ≡ suc i = omega arith in ap (λ k. length (slashed (take k ps))) on ∙ suc_more i ps h
 
@@ -136,13 +141,18 @@ same_piece path p q x y a b = (cut p q x y a.no_slash b.no_slash a.ends b.ends (
 
 -- ---- a template of literals and one wildcard a segment matches by pieces
 
-plain_taken : (ss : List Segment) (taken : List (List (List ℕ))) → AllByRecursion (λ s. is_one_segment s ≡ true) ss → AllByRecursion IsSegment ss → EachTakes ss taken → EachTakesPiece ss (shares taken)
-plain_taken [] [] o a h = tt
-plain_taken [] (x ∷ xs) o a h = absurd h
-plain_taken (s ∷ ss) [] o a h = absurd h
-plain_taken (Literal l ∷ ss) (x ∷ xs) o a h = subst (λ z. EachTakesPiece (Literal l ∷ ss) (z ++ shares xs)) (sym h.0) ((refl, literal_no_slash l (literal_all l a.0)), plain_taken ss xs o.1 a.1 h.1)
-plain_taken (One ∷ ss) (x ∷ xs) o a h = subst (λ z. EachTakesPiece (One ∷ ss) (z ++ shares xs)) (sym h.0.2) ((h.0.1.0, h.0.1.1), plain_taken ss xs o.1 a.1 h.1)
-plain_taken (Rest ∷ ss) (x ∷ xs) o a h = absurd (cc (o.0))
+-- a law of templates: no byte of a literal is a slash
+abbrev pub HaveNoSlash : Type 0
+HaveNoSlash = (l : List ℕ) → IsLiteral l → AllByRecursion (λ b. b ≢ 47) l
+
+-- what segments take is taken piece by piece
+plain_taken : HaveNoSlash → (ss : List Segment) (taken : List (List (List ℕ))) → AllByRecursion (λ s. is_one_segment s ≡ true) ss → AllByRecursion IsSegment ss → EachTakes ss taken → EachTakesPiece ss (shares taken)
+plain_taken law [] [] o a h = tt
+plain_taken law [] (x ∷ xs) o a h = absurd h
+plain_taken law (s ∷ ss) [] o a h = absurd h
+plain_taken law (Literal l ∷ ss) (x ∷ xs) o a h = subst (λ z. EachTakesPiece (Literal l ∷ ss) (z ++ shares xs)) (sym h.0) ((refl, law l a.0), plain_taken law ss xs o.1 a.1 h.1)
+plain_taken law (One ∷ ss) (x ∷ xs) o a h = subst (λ z. EachTakesPiece (One ∷ ss) (z ++ shares xs)) (sym h.0.2) ((h.0.1.0, h.0.1.1), plain_taken law ss xs o.1 a.1 h.1)
+plain_taken law (Rest ∷ ss) (x ∷ xs) o a h = absurd (cc (o.0))
 
 -- a share of one piece each
 abbrev each_one : List (List ℕ) → List (List (List ℕ))
@@ -203,11 +213,6 @@ span_is ss ps v h e =
     ∙ own_span (take k ps) (shares (take n (drop k (each_one ps)))) (get_or ps k []) end (part_one n k ps ∙ own.0)
     ∙ ap (λ z. (length (slashed (take k ps)) + 1, length (slashed z))) (sym (take_more ps k [] own.1))
 
-segments_lawful : (text : List ℕ) (t : Template) (name : List ℕ) → IsTemplateOf text t name → AllByRecursion IsSegment t.segments
-segments_lawful text t name h =
-    let ss : segments_of (h.means.first ∷ h.means.more) ≡ t.segments = sym (ap (λ (x : Template). x.segments) h.means.means) in
-    subst (AllByRecursion IsSegment) ss (parts_segments (h.means.first ∷ h.means.more) h.means.each)
-
 bare_verb : (t : Template) (bytes : List ℕ) → t.verb ≡ None → bytes ++ verb_text t.verb ≡ bytes
 bare_verb t bytes e = ap (λ z. bytes ++ verb_text z) e ∙ append-nil bytes
 
@@ -215,18 +220,11 @@ none_some : (o : Option (List ℕ)) → o ≡ None → IsSome o → ⊥
 none_some None e h = absurd (cc (h))
 none_some (Some x) e h = absurd (cc (e))
 
--- the one variable of a template takes some of its segments
-pub wildcard_range : (t : Template) (v : Variable) → IsTemplate t → t.variables ≡ v ∷ [] → (v.from < v.to) × (v.to ≤ length t.segments)
-wildcard_range t v h e =
-    let one : get_or t.variables 0 v ≡ v = ap (λ z. get_or z 0 v) e in
-    let r = range_within t 0 v h (omega (arith, ap length e)) in
-    subst (λ (w : Variable). (w.from < w.to) × (w.to ≤ length t.segments)) one r
-
 -- what fits is taken whole
-pub fits_all : (text : List ℕ) (t : Template) (name path : List ℕ) → IsTemplateOf text t name → Fits t path → TakeAll t.segments path
-fits_all text t name path h f =
+pub fits_all : HaveNoSlash → (text : List ℕ) (t : Template) (name path : List ℕ) → IsTemplateOf text t name → AllByRecursion IsSegment t.segments → Fits t path → TakeAll t.segments path
+fits_all law text t name path h lawful f =
     let m = f.1 in
-    (shares m.taken, plain_taken t.segments m.taken h.plain.segments (segments_lawful text t name h) m.each, m.written ∙ bare_verb t (slashed (shares m.taken)) h.plain.verb)
+    (shares m.taken, plain_taken law t.segments m.taken h.plain.segments lawful m.each, m.written ∙ bare_verb t (slashed (shares m.taken)) h.plain.verb)
 
 -- what is taken whole matches, and the variable's span is that of its piece
 pub all_match : (text : List ℕ) (t : Template) (name path : List ℕ) (h : IsTemplateOf text t name) → IsPath path → (a : TakeAll t.segments path) → Matches t path (piece_span a.0 h.variable.from ∷ [])
@@ -248,13 +246,14 @@ no_slashes (s ∷ ss) [] h = absurd h
 no_slashes (s ∷ ss) (p ∷ ps) h = (h.0.1, no_slashes ss ps h.1)
 
 -- the span of the variable's piece is that of the match, and lies in the path
-pub matched : (text : List ℕ) (t : Template) (name path : List ℕ) (h : IsTemplateOf text t name) → IsPath path → TakeAll t.segments path → (index : ℕ) → index ≡ h.variable.from → (span : ℕ × ℕ)
+pub matched : (law : (t : Template) (path : List ℕ) (spans : List (ℕ × ℕ)) → Matches t path spans → AreSpansOf t path spans)
+    → (text : List ℕ) (t : Template) (name path : List ℕ) (h : IsTemplateOf text t name) → IsPath path → TakeAll t.segments path → (index : ℕ) → index ≡ h.variable.from → (span : ℕ × ℕ)
     → ((pieces : List (List ℕ)) → AllByRecursion HasNoSlash pieces → path ≡ slashed pieces → index < length pieces → span ≡ piece_span pieces index)
     → Matches t path (span ∷ []) × (span.0 ≤ span.1) × (span.1 ≤ length path)
-matched text t name path h is a index there span at =
+matched law text t name path h is a index there span at =
     let ps = a.0 in
     let own = wildcard_piece (h.variable.to - h.variable.from) h.variable.from t.segments ps a.1 h.takes in
     let e : span ≡ piece_span ps h.variable.from = at ps (no_slashes t.segments ps a.1) a.2 (omega (arith, there, own.1)) ∙ ap (piece_span ps) there in
     let m = subst (λ z. Matches t path (z ∷ [])) (sym e) (all_match text t name path h is a) in
-    let inside = (spans_inside t path (span ∷ []) m).inside.0 in
+    let inside = (law t path (span ∷ []) m).inside.0 in
     (m, inside.0, inside.1)

@@ -4,6 +4,7 @@ use Rattle.std.proofs.lemmas.Bool.{eq-eqb}
 use Rattle.std.proofs.lemmas.Bool.Decides.{nat_tests}
 use Rattle.std.specs.List.{AllByRecursion}
 use Rattle.std.specs.Str.{bytes_eq}
+use Rattle.base.proofs.EachLemmas.{each_image, each_weaker}
 use Rattle.descriptor_set.specs.declared.file_set.FileSet.{FileSet}
 use Rattle.descriptor_pool.specs.DeclaredNames.{declarations}
 use Rattle.descriptor_pool.specs.DeclaredTypes.{SetTypes, types_in}
@@ -11,12 +12,12 @@ use Rattle.descriptor_pool.specs.ReachableTypes.{Joined, reachable}
 use Rattle.descriptor_pool.specs.SetMethods.{BoundMethod, bound_methods}
 use Rattle.gateway_run.specs.OneRoute.{HasRoute}
 use Rattle.http_rules.specs.declared.template.Template.{Template}
-use Rattle.schema.specs.Soundness.{AreNumbersApart}
+use Rattle.schema.specs.Soundness.{AreNumbersApart, IsSound, IsSoundField, IsSoundMessage}
 use Rattle.schema.specs.Types.{field_in}
 use Rattle.schema.specs.declared.types.fields.Field.{Field}
 use Rattle.schema.specs.declared.types.messages.MessageType.{MessageType}
-use Rattle.schema_link.proofs.SoundNumbers.{linked_numbers}
-use Rattle.schema_link.specs.LinkedTypes.{linked_types}
+use Rattle.schema.specs.declared.types.messages.Types.{Types}
+use Rattle.linked_types.specs.LinkedTypes.{linked_types}
 use Rattle.schema_link.specs.ServedTemplates.{IsTemplateOf}
 use Rattle.schema_link.specs.SetApi.{IsLinkOf, IsNumberOf, field_named, id_of, input_fields, served}
 use Rattle.schema_link.specs.declared.api.Api.{Api}
@@ -35,10 +36,6 @@ chosen false P g f o p on e = on e
 named_holds : (P : Field → Type 0) (fs : List Field) (name : List ℕ) (f : Field) → AllByRecursion P fs → field_named fs name ≡ Some f → P f
 named_holds P [] name f a e = absurd (cc (e))
 named_holds P (g ∷ gs) name f a e = chosen (bytes_eq g.name name) P g f (field_named gs name) a.0 (λ h. named_holds P gs name f a.1 h) e
-
-all_mapped : {A B : Type 0} (v : A → B) (P : B → Type 0) (xs : List A) → AllByRecursion P (map v xs) → AllByRecursion (λ x. P (v x)) xs
-all_mapped v P [] a = tt
-all_mapped v P (x ∷ xs) a = (a.0, all_mapped v P xs a.1)
 
 other_number : (b : Bool) (g f : Field) (o : Option Field) → b ≡ (g.number == f.number) → nat_eq g.number f.number ≡ false → o ≡ Some f → cond b (Some g) o ≡ Some f
 other_number true g f o t n e = absurd (grind (arith, nat_tests, t, n))
@@ -59,7 +56,7 @@ found_step false g f gs o apart other on e = other_number (g.number == f.number)
 found_by_number : (fs : List Field) (name : List ℕ) (f : Field) → AreNumbersApart fs → field_named fs name ≡ Some f → field_in fs f.number ≡ Some f
 found_by_number [] name f a e = absurd (cc (e))
 found_by_number (g ∷ gs) name f a e =
-    let apart = all_mapped (λ (z : Field). z.number) (λ n. nat_eq g.number n ≡ false) gs a.0 in
+    let apart = each_image (λ (z : Field). z.number) (λ n. nat_eq g.number n ≡ false) gs a.0 in
     found_step (bytes_eq g.name name) g f gs (field_named gs name) apart
     (λ h. named_holds (λ (z : Field). nat_eq g.number z.number ≡ false) gs name f apart h)
     (λ h. found_by_number gs name f a.1 h) e
@@ -77,24 +74,30 @@ served_route : (types : SetTypes) (js : List Joined) (m : BoundMethod) (text : L
     → AllByRecursion (λ (z : MessageType). AreNumbered z.fields) (linked_types types js).messages → HasRoute (served types js m t number)
 served_route types js m text t name number is n all =
     let fs = input_fields types js m in
-    let numbered : AreNumbered fs = of_type AreNumbered (linked_types types js).messages (id_of types js m.input).0 (tt, tt) all in
+    let own : AreNumbered fs = of_type AreNumbered (linked_types types js).messages (id_of types js m.input).0 (tt, tt) all in
     record {
       route = record { types = linked_types types js; input = id_of types js m.input; path = m.path; template = t; number = number };
       route_is = refl;
       sets = record {
         field = n.field;
-        field_is = ap (λ k. field_in fs k) n.number_is ∙ found_by_number fs name n.field numbered.0 n.field_is;
+        field_is = ap (λ k. field_in fs k) n.number_is ∙ found_by_number fs name n.field own.0 n.field_is;
         single = n.single;
-        number = subst (λ k. 1 ≤ k) (sym n.number_is) (named_holds (λ (f : Field). 1 ≤ f.number) fs name n.field numbered.1 n.field_is);
+        number = subst (λ k. 1 ≤ k) (sym n.number_is) (named_holds (λ (f : Field). 1 ≤ f.number) fs name n.field own.1 n.field_is);
         template = record { text = text; name = name; is = is };
       };
     }
 
--- what is linked of a set has one route, whose variable sets a single string
-pub linked_route : (set : FileSet) (api : Api) → IsLinkOf set (Ok api) → HasRoute api
-linked_route set api l =
+-- the fields of sound types are numbered
+numbered : (types : Types) → IsSound types → AllByRecursion (λ (m : MessageType). AreNumbered m.fields) types.messages
+numbered types s =
+    each_weaker (IsSoundMessage types) (λ (m : MessageType). AreNumbered m.fields)
+    (λ m h. (h.numbers, each_weaker (IsSoundField types) (λ (f : Field). 1 ≤ f.number) (λ f k. k.low) m.fields h.fields)) types.messages s.messages
+
+-- what is linked of a set and sound has one route, whose variable sets a single string
+pub linked_route : (set : FileSet) (api : Api) → IsLinkOf set (Ok api) → IsSound api.types → HasRoute api
+linked_route set api l sound =
     let types = types_in (declarations set) in
     let s = l.1 in
     let w = s.served_is in
-    let all = subst (λ (z : Api). AllByRecursion (λ (m : MessageType). AreNumbered m.fields) z.types.messages) w.api_is (linked_numbers set api l) in
+    let all = subst (λ (z : Api). AllByRecursion (λ (m : MessageType). AreNumbered m.fields) z.types.messages) w.api_is (numbered api.types sound) in
     subst HasRoute (sym w.api_is) (served_route types (reachable types (bound_methods set)) s.method s.text s.template s.name w.number s.template_is w.number_is all)

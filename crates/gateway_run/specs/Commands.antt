@@ -1,19 +1,8 @@
 -- What the words behind the program's name mean.
-use Rattle.std.specs.Prelude.{ℕ, ◌^◌, ◌==◌, ◌&&◌, ◌||◌, Bool, List, [], ◌∷◌, length, codes, Option, Some, None, not, nat_le, nat_lt, if◌then◌else◌}
-use Rattle.std.specs.List.{list_all, list_any}
+use Rattle.std.specs.Prelude.{ℕ, ◌^◌, ◌&&◌, Bool, List, [], ◌∷◌, length, codes, Option, Some, None, nat_le, nat_lt, if◌then◌else◌}
+use Rattle.std.specs.List.{list_all}
 use Rattle.std.specs.Str.{bytes_eq}
-
--- a letter or a digit of ASCII
-abbrev pub is_alphanumeric : ℕ → Bool
-is_alphanumeric b = (nat_le 48 b && nat_le b 57) || ((nat_le 65 b && nat_le b 90) || (nat_le 97 b && nat_le b 122))
-
--- a byte of a token (RFC 9110, section 5.6.2)
-abbrev pub is_token_byte : ℕ → Bool
-is_token_byte b = is_alphanumeric b || list_any (λ c. c == b) (codes "!#$%&'*+-.^_`|~")
-
--- a token (RFC 9110, section 5.6.2)
-abbrev pub is_token : List ℕ → Bool
-is_token word = not (length word == 0) && list_all is_token_byte word
+use Rattle.http_rules.specs.Tokens.{is_token}
 
 -- a byte of a target: visible ASCII
 abbrev pub is_target_byte : ℕ → Bool

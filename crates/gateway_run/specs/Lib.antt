@@ -1,8 +1,10 @@
 pub use Rattle.descriptor_set.specs.DescriptorFields
 pub use Rattle.descriptor_set.specs.SetReading
 pub use Rattle.gate_world.specs.Causes
+pub use Rattle.gate_world.specs.Refusals
 pub use Rattle.gate_world.specs.Sinks
 pub use Rattle.http_rules.specs.Template
+pub use Rattle.http_rules.specs.Tokens
 pub use Rattle.http_rules.specs.TemplateMatch
 pub use Rattle.http_rules.specs.PercentDecoding
 pub use Rattle.schema_link.specs.LinkFaults
@@ -17,4 +19,5 @@ pub mod BoundMessage
 pub mod PathPieces
 pub mod RequestMeaning
 pub mod DescriptorLines
+pub mod RefusalLines
 pub mod Outcomes

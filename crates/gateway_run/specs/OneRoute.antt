@@ -30,6 +30,7 @@ abbrev pub route_of : Types → MethodInfo → Binding → Option OneRoute
 route_of types m b =
     option_map (λ n. record { types = types; input = m.input; path = m.path; template = b.template; number = n }) (only_number b.paths)
 
+-- the same of the methods and bindings of an API that has one of each
 abbrev pub route_in : Types → List MethodInfo → List Binding → Option OneRoute
 route_in types (m ∷ []) (b ∷ []) = route_of types m b
 route_in types _ _ = None

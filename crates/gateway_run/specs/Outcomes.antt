@@ -3,12 +3,17 @@ use Rattle.std.specs.Prelude.{◌≡◌, ℕ, List, [], codes, Option, Some, Non
 use Rattle.gate_world.specs.Sinks.{Gains, GainsPrefix}
 use Rattle.gateway_run.specs.Commands.{BindWords}
 use Rattle.gateway_run.specs.OneRoute.{OneRoute}
+use Rattle.gateway_run.specs.RefusalLines.{refusal_line}
 use Rattle.gateway_run.specs.RequestMeaning.{IsPrinted, IsRefusal}
 use Rattle.gateway_run.specs.DescriptorLines.{descriptor_line}
 use Rattle.gateway_run.specs.ServedSet.{IsUnserved, Serves}
 use Rattle.gateway_run.specs.declared.descriptor_fault.DescriptorFault.{DescriptorFault}
-use Rattle.gateway_run.specs.declared.refusal.Refusal.{Refusal}
-use Rattle.gateway_run.specs.declared.refusal.Refusal.TheVariants as refusals
+use Rattle.gateway_run.specs.declared.descriptor_fault.DescriptorFault.TheVariants as faults
+use Rattle.gateway_run.specs.declared.refusal.RequestRefusal.{RequestRefusal}
+use Rattle.descriptor_set.specs.declared.fault.SetFault.{SetFault}
+use Rattle.descriptor_set.specs.declared.fault.SetFault.TheVariants as unread
+use Rattle.set_faults.specs.declared.fault.LinkFault.{LinkFault}
+use Rattle.set_faults.specs.declared.fault.LinkFault.TheVariants as link
 use Rattle.gateway_run.specs.declared.status.Status.{Status}
 use Rattle.gateway_run.specs.declared.status.Status.TheVariants as status
 use Rattle.gateway_run.specs.declared.status.Stop.{Stop}
@@ -21,17 +26,10 @@ pub record IsOutput (file : List ℕ) (c : BindWords) (out : List ℕ) : Type 0 
   pub printed : IsPrinted route c.method c.target out
 
 -- its request is refused
-pub record IsRefusedBy (file : List ℕ) (c : BindWords) (r : Refusal) : Type 0 where
+pub record IsRefusedBy (file : List ℕ) (c : BindWords) (r : RequestRefusal) : Type 0 where
   pub route : OneRoute
   pub serves : Serves file route
   pub refused : IsRefusal route c.method c.target r
-
--- the line of a refusal
-abbrev pub refusal_line : Refusal → List ℕ
-refusal_line refusals.NotBuilt = codes "refused 501 not built\n"
-refusal_line refusals.PathUnknown = codes "refused 404 path unknown\n"
-refusal_line refusals.PathNotUtf8 = codes "refused 400 path variable 1: not UTF-8\n"
-refusal_line refusals.MessageLong = codes "refused 429 message too long\n"
 
 -- the line of a status: that of a fault of the set or of a refusal where there is one, none with Done
 abbrev pub IsLine : Status → List ℕ → Type 0
@@ -41,7 +39,7 @@ IsLine status.Descriptors line = (f : DescriptorFault) × (line ≡ descriptor_l
 IsLine status.ReadFault line = line ≡ codes "read fault\n"
 IsLine status.WriteFault line = line ≡ codes "write fault\n"
 IsLine status.NoMemory line = line ≡ codes "out of memory\n"
-IsLine status.Refused line = (r : Refusal) × (line ≡ refusal_line r)
+IsLine status.Refused line = (r : RequestRefusal) × (line ≡ refusal_line r)
 
 -- the number that the program ends with
 abbrev pub number_of : Status → ℕ
@@ -62,6 +60,16 @@ stop_status stop.WriteFault = status.WriteFault
 stop_status stop.NoMemory = status.NoMemory
 stop_status (stop.Refused r) = status.Refused
 
+-- why a command stops whose set is not read
+abbrev pub unread_stop : SetFault → Stop
+unread_stop unread.NoMemory = stop.NoMemory
+unread_stop f = stop.Descriptors (faults.Unread f)
+
+-- the same of one whose set is not linked
+abbrev pub unlinked_stop : LinkFault → Stop
+unlinked_stop link.NoMemory = stop.NoMemory
+unlinked_stop f = stop.Descriptors (faults.Unlinked f)
+
 -- its line
 abbrev pub stop_line : Stop → List ℕ
 stop_line stop.Usage = codes "usage\n"
@@ -81,7 +89,7 @@ Answers file c status.Descriptors line old new = (f : DescriptorFault) × IsUnse
 Answers file c status.ReadFault line old new = Unit {0}
 Answers file c status.WriteFault line old new = (bytes : List ℕ) × IsOutput file c bytes × GainsPrefix old new bytes
 Answers file c status.NoMemory line old new = Unit {0}
-Answers file c status.Refused line old new = (r : Refusal) × IsRefusedBy file c r × (line ≡ refusal_line r)
+Answers file c status.Refused line old new = (r : RequestRefusal) × IsRefusedBy file c r × (line ≡ refusal_line r)
 
 -- the answer to a command over what its file is told to be
 abbrev pub AnswersTold : Option BindWords → (List ℕ → Option (List ℕ)) → Status → List ℕ → Option (List ℕ) → Option (List ℕ) → Type 0
@@ -104,7 +112,7 @@ Writes status.WriteFault = Unit {0}
 Writes _ = ⊥
 
 -- what a step of a command gives: a good value, or why the command stops there
-abbrev pub Gives : {A : Type 0} → (A → Type 0) → (DescriptorFault → Type 0) → (Refusal → Type 0) → Type 0 → Result A Stop → Type 0
+abbrev pub Gives : {A : Type 0} → (A → Type 0) → (DescriptorFault → Type 0) → (RequestRefusal → Type 0) → Type 0 → Result A Stop → Type 0
 Gives Good Unserved Refused Failed (Ok x) = Good x
 Gives Good Unserved Refused Failed (Err stop.Usage) = ⊥
 Gives Good Unserved Refused Failed (Err (stop.Descriptors f)) = Unserved f
@@ -118,6 +126,7 @@ abbrev pub status_of : {A : Type 0} → Result A Stop → Status
 status_of (Ok x) = status.Done
 status_of (Err e) = stop_status e
 
+-- its line, where it did not end well
 abbrev pub line_of : {A : Type 0} → Result A Stop → List ℕ
 line_of (Ok x) = []
 line_of (Err e) = stop_line e

@@ -4,8 +4,10 @@ use Rattle.std.specs.List.{list_any, starts_with}
 use Rattle.std.specs.Str.{IsUtf8, bytes_eq}
 use Rattle.gateway_run.specs.BoundMessage.{text_slots}
 use Rattle.gateway_run.specs.OneRoute.{OneRoute}
-use Rattle.gateway_run.specs.declared.refusal.Refusal.{Refusal}
-use Rattle.gateway_run.specs.declared.refusal.Refusal.TheVariants.{NotBuilt, PathUnknown, PathNotUtf8, MessageLong}
+use Rattle.gate_world.specs.declared.refusal.Refusal.TheVariants.{PathUnknown, PathValue, MessageTooLong}
+use Rattle.gate_world.specs.declared.value_fault.ValueFault.TheVariants.{NotUtf8}
+use Rattle.gateway_run.specs.declared.refusal.RequestRefusal.{RequestRefusal}
+use Rattle.gateway_run.specs.declared.refusal.RequestRefusal.TheVariants.{NotBuilt, Listed}
 use Rattle.grpc_frames.specs.LengthPrefixed.{length_prefixed}
 use Rattle.hex.specs.Hex.{encode_lower}
 use Rattle.http_rules.specs.PercentDecoding.{captured}
@@ -60,12 +62,13 @@ pub record IsLong (route : OneRoute) (target : List ℕ) : Type 0 where
   pub is : IsMessageOf route text message
   pub long : 1048576 < length message
 
--- why a request is refused
-abbrev pub IsRefusal : OneRoute → List ℕ → List ℕ → Refusal → Type 0
+-- why a request is refused; for no other cause so far
+abbrev pub IsRefusal : OneRoute → List ℕ → List ℕ → RequestRefusal → Type 0
 IsRefusal route method target NotBuilt = is_served method target ≡ false
-IsRefusal route method target PathUnknown = (is_served method target ≡ true) × (Fits route.template target → ⊥)
-IsRefusal route method target PathNotUtf8 = (is_served method target ≡ true) × IsNotUtf8 route target
-IsRefusal route method target MessageLong = (is_served method target ≡ true) × IsLong route target
+IsRefusal route method target (Listed PathUnknown) = (is_served method target ≡ true) × (Fits route.template target → ⊥)
+IsRefusal route method target (Listed (PathValue n NotUtf8)) = (n ≡ 1) × (is_served method target ≡ true) × IsNotUtf8 route target
+IsRefusal route method target (Listed MessageTooLong) = (is_served method target ≡ true) × IsLong route target
+IsRefusal route method target _ = ⊥
 
 -- what `bind` prints: the path, and the length-prefixed message in lower-case hexadecimal
 abbrev pub output : List ℕ → List ℕ → List ℕ

@@ -11,34 +11,23 @@ ghost use Rattle.hex.specs.Hex.{encode_lower};
 
 use crate::binding::bind;
 use crate::command::Bind;
-use crate::descriptor_fault::DescriptorFault;
 use crate::served::{Served, one_route};
 use crate::set_loading::read_whole;
 use crate::status::Stop;
-use descriptor_set::{SetFault, read_set};
+use base::NoMemory;
+use descriptor_set::read_set;
 use gate_world::Files;
 use grpc_frames::frame;
-use schema::NoMemory;
-use schema_link::{Api, LinkFault, link};
+use schema_link::{Api, link};
 use std::alloc::Global;
 
 /// What the set of these bytes serves.
 fn linked(alloc: Global, bytes: &[u8]) -> Result<Api, Stop>
     ensures gives { Gives (λ api. Declares bytes.now api × HasRoute api) (IsUnserved bytes.now) (λ _. ⊥) ⊥ result }
 {
-    match read_set(alloc, bytes) {
-        Ok(set) => match link(alloc, &set) {
-            Ok(api) => Ok(api),
-            Err(LinkFault::At(kind, name, second)) => {
-                Err(Stop::Descriptors(DescriptorFault::Link(kind, name, second)))
-            }
-            Err(LinkFault::NoMemory) => Err(Stop::NoMemory),
-        },
-        Err(SetFault::Wire(fault)) => Err(Stop::Descriptors(DescriptorFault::Wire(fault))),
-        Err(SetFault::NotUtf8(place)) => Err(Stop::Descriptors(DescriptorFault::NotUtf8(place))),
-        Err(SetFault::TooLong) => Err(Stop::Descriptors(DescriptorFault::TooLong)),
-        Err(SetFault::NoMemory) => Err(Stop::NoMemory),
-    }
+    let set = read_set(alloc, bytes)?;
+    let api = link(alloc, &set)?;
+    Ok(api)
 }
 
 /// Appends bytes in lower-case hexadecimal.

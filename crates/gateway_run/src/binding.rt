@@ -11,11 +11,13 @@ ghost use Rattle.http_rules.specs.TemplateMatch.{AreSpansOf};
 ghost use Rattle.schema.specs.Value.{slots_of};
 
 use crate::matching::variable_span;
-use crate::refusal::Refusal;
+use crate::refusal::RequestRefusal;
 use crate::served::Served;
 use crate::status::Stop;
+use base::{NoMemory, Text};
+use gate_world::{Refusal, ValueFault};
 use http_rules::capture;
-use schema::{Item, NoMemory, Slot, Text, Value};
+use schema::{Item, Slot, Value};
 use std::alloc::Global;
 use std::str;
 use wire_format::encode;
@@ -87,11 +89,11 @@ fn message_bytes(
         Some(text) => {
             let bytes = encoded(alloc, served, text)?;
             if bytes.len() > MAX_MESSAGE_BYTES {
-                return Err(Stop::Refused(Refusal::MessageLong));
+                return Err(Stop::listed(Refusal::MessageTooLong));
             }
             Ok(bytes)
         }
-        None => Err(Stop::Refused(Refusal::PathNotUtf8)),
+        None => Err(Stop::listed(Refusal::PathValue(1, ValueFault::NotUtf8))),
     }
 }
 
@@ -106,13 +108,13 @@ pub(crate) fn bind(
     ensures { Gives (λ bytes. IsBound (served_view served.now) method.now target.now bytes.items) (λ _. ⊥) (IsRefusal (served_view served.now) method.now target.now) ⊥ result }
 {
     if !is_served(method, target) {
-        return Err(Stop::Refused(Refusal::NotBuilt));
+        return Err(Stop::Refused(RequestRefusal::NotBuilt));
     }
     match variable_span(served.template, target) {
         Some((from, to)) => {
             let text = capture(alloc, served.template, 0, &target[from..to])?;
             message_bytes(alloc, served, method, target, text.as_slice())
         }
-        None => Err(Stop::Refused(Refusal::PathUnknown)),
+        None => Err(Stop::listed(Refusal::PathUnknown)),
     }
 }

@@ -1,64 +1,20 @@
 //! What the words behind the program's name mean.
 ghost use Rattle.std.specs.Prelude.{◌≡◌, map, option_map, string_bytes};
-ghost use Rattle.gateway_run.specs.Commands.{command_of, is_target, is_target_byte, is_token, is_token_byte};
+ghost use Rattle.gateway_run.specs.Commands.{command_of, is_target, is_target_byte};
 ghost use Rattle.std.specs.List.{list_all};
 ghost use Rattle.gateway_run.specs.CommandViews.{bind_view};
+
+use http_rules::is_token;
 
 /// `bind SET METHOD TARGET`.
 #[derive(Debug, Clone, Copy)]
 pub(crate) struct Bind<'a> {
     /// The path of the descriptor set.
-    pub set: &'a str,
+    pub(crate) set: &'a str,
     /// The method of the request: a token (RFC 9110, section 5.6.2).
-    pub method: &'a str,
+    pub(crate) method: &'a str,
     /// The target of the request: visible ASCII bytes.
-    pub target: &'a str,
-}
-
-/// True where the byte may stand in a token (RFC 9110, section 5.6.2).
-fn is_token_byte(byte: u8) -> bool
-    ensures { result ≡ is_token_byte byte }
-{
-    matches!(
-        byte,
-        b'0'..=b'9'
-            | b'A'..=b'Z'
-            | b'a'..=b'z'
-            | b'!'
-            | b'#'
-            | b'$'
-            | b'%'
-            | b'&'
-            | b'\''
-            | b'*'
-            | b'+'
-            | b'-'
-            | b'.'
-            | b'^'
-            | b'_'
-            | b'`'
-            | b'|'
-            | b'~'
-    )
-}
-
-/// True where each byte may stand in a token.
-fn are_token_bytes(word: &[u8]) -> bool
-    ensures { result ≡ list_all is_token_byte word.now }
-{
-    for byte in word {
-        if !is_token_byte(*byte) {
-            return false;
-        }
-    }
-    true
-}
-
-/// True where the word is a token.
-fn is_token(word: &[u8]) -> bool
-    ensures { result ≡ is_token word.now }
-{
-    !word.is_empty() && are_token_bytes(word)
+    pub(crate) target: &'a str,
 }
 
 /// True where the byte is visible ASCII.

@@ -3,16 +3,18 @@ ghost use Rattle.std.specs.List.{flat_map};
 ghost use Rattle.std.specs.Prelude.{◌≡◌, ◌≤◌, ◌++◌, codes, OnOk, OnErr};
 ghost use Rattle.gate_world.specs.Causes.{Rose};
 ghost use Rattle.gate_world.specs.Sinks.{Gains, GainsPrefix};
-ghost use Rattle.gateway_run.specs.DescriptorLines.{descriptor_line, is_not_built, link_text, wire_kind_name};
+ghost use Rattle.gateway_run.specs.DescriptorLines.{descriptor_line, is_not_built, link_text};
 ghost use Rattle.gateway_run.specs.Outcomes.{stop_line};
+ghost use Rattle.gateway_run.specs.RefusalLines.{refusal_line};
 
 use crate::descriptor_fault::DescriptorFault;
+use crate::refusal::RequestRefusal;
 use crate::status::Stop;
+use base::Text;
+use descriptor_set::SetFault;
 use gate_world::{Sink, WriteFailed, write_all};
 use itoa::Buffer;
-use schema::Text;
-use schema_link::LinkKind;
-use wire_format::WireKind;
+use schema_link::{LinkFault, LinkKind};
 
 /// Writes texts one after another. Where a write fails, the sink has gained a prefix of them, joined.
 fn write_texts<O: Sink>(out: &mut O, texts: &[&str]) -> Result<(), WriteFailed>
@@ -27,19 +29,6 @@ fn write_texts<O: Sink>(out: &mut O, texts: &[&str]) -> Result<(), WriteFailed>
             write_texts(out, rest)
         }
         None => Ok(()),
-    }
-}
-
-/// The name of what is wrong with a record.
-fn kind_name(kind: WireKind) -> &'static str
-    ensures { result.now ≡ wire_kind_name kind }
-{
-    match kind {
-        WireKind::Short => "Short",
-        WireKind::LongVarint => "LongVarint",
-        WireKind::BadTag => "BadTag",
-        WireKind::BadGroup => "BadGroup",
-        WireKind::TooDeep => "TooDeep",
     }
 }
 
@@ -82,6 +71,31 @@ fn write_link_line<'a, O: Sink>(
     write_texts(err, &texts)
 }
 
+/// Writes why a descriptor set is not read.
+fn write_set_line<O: Sink>(err: &mut O, fault: SetFault) -> Result<(), WriteFailed>
+    ensures written { OnOk result (Gains (O.written err.old) (O.written err.new) (descriptor_line (DescriptorFault.Unread fault))) }
+    ensures prefix { OnErr result (GainsPrefix (O.written err.old) (O.written err.new) (descriptor_line (DescriptorFault.Unread fault))) }
+    ensures later { O.faults err.old ≤ O.faults err.new }
+    ensures failed { OnErr result (Rose (O.faults err.old) (O.faults err.new)) }
+{
+    let mut buffer = Buffer::new();
+    match fault {
+        SetFault::Wire(wire) => {
+            let digits = buffer.format(wire.place);
+            let kind = wire.kind.name();
+            let texts = ["descriptors: Wire at ", digits, " ", kind, "\n"];
+            write_texts(err, &texts)
+        }
+        SetFault::NotUtf8(place) => {
+            let digits = buffer.format(place);
+            let texts = ["descriptors: NotUtf8 at ", digits, "\n"];
+            write_texts(err, &texts)
+        }
+        SetFault::TooLong => write_all(err, "descriptors: TooLong\n".as_bytes()),
+        SetFault::NoMemory => write_all(err, "descriptors: out of memory\n".as_bytes()),
+    }
+}
+
 /// Writes why a descriptor set is not served.
 fn write_descriptor_line<O: Sink>(err: &mut O, fault: &DescriptorFault) -> Result<(), WriteFailed>
     ensures written { OnOk result (Gains (O.written err.old) (O.written err.new) (descriptor_line fault.now)) }
@@ -89,22 +103,35 @@ fn write_descriptor_line<O: Sink>(err: &mut O, fault: &DescriptorFault) -> Resul
     ensures later { O.faults err.old ≤ O.faults err.new }
     ensures failed { OnErr result (Rose (O.faults err.old) (O.faults err.new)) }
 {
-    let mut buffer = Buffer::new();
     match fault {
-        DescriptorFault::Wire(wire) => {
-            let digits = buffer.format(wire.place);
-            let kind = kind_name(wire.kind);
-            let texts = ["descriptors: Wire at ", digits, " ", kind, "\n"];
-            write_texts(err, &texts)
+        DescriptorFault::Unread(fault) => write_set_line(err, *fault),
+        DescriptorFault::Unlinked(LinkFault::At(kind, name, second)) => {
+            write_link_line(err, *kind, name, second)
         }
-        DescriptorFault::NotUtf8(place) => {
-            let digits = buffer.format(*place);
-            let texts = ["descriptors: NotUtf8 at ", digits, "\n"];
-            write_texts(err, &texts)
+        DescriptorFault::Unlinked(LinkFault::NoMemory) => {
+            write_all(err, "descriptors: out of memory\n".as_bytes())
         }
-        DescriptorFault::TooLong => write_all(err, "descriptors: TooLong\n".as_bytes()),
-        DescriptorFault::Link(kind, name, second) => write_link_line(err, *kind, name, second),
     }
+}
+
+/// Writes why a request is refused.
+fn write_refusal_line<O: Sink>(err: &mut O, refusal: RequestRefusal) -> Result<(), WriteFailed>
+    ensures written { OnOk result (Gains (O.written err.old) (O.written err.new) (refusal_line refusal)) }
+    ensures prefix { OnErr result (GainsPrefix (O.written err.old) (O.written err.new) (refusal_line refusal)) }
+    ensures later { O.faults err.old ≤ O.faults err.new }
+    ensures failed { OnErr result (Rose (O.faults err.old) (O.faults err.new)) }
+{
+    let (mut statuses, mut numbers) = (Buffer::new(), Buffer::new());
+    let status = statuses.format(refusal.status());
+    let cause = refusal.cause();
+    let Some(detail) = refusal.detail() else {
+        let texts = ["refused ", status, " ", cause, "\n"];
+        return write_texts(err, &texts);
+    };
+    let number = numbers.format(detail.at);
+    let fault = detail.fault.text();
+    let texts = ["refused ", status, " ", cause, number, ": ", fault, "\n"];
+    write_texts(err, &texts)
 }
 
 /// Writes the line of a command that stopped. Where a write fails, `err` has gained a prefix of it.
@@ -120,6 +147,6 @@ pub(crate) fn write_line<O: Sink>(err: &mut O, stop: &Stop) -> Result<(), WriteF
         Stop::ReadFault => write_all(err, "read fault\n".as_bytes()),
         Stop::WriteFault => write_all(err, "write fault\n".as_bytes()),
         Stop::NoMemory => write_all(err, "out of memory\n".as_bytes()),
-        Stop::Refused(refusal) => write_all(err, refusal.line().as_bytes()),
+        Stop::Refused(refusal) => write_refusal_line(err, *refusal),
     }
 }

@@ -10,20 +10,17 @@ mod binding;
 mod command;
 mod descriptor_fault;
 mod error_lines;
-mod laws;
+pub mod laws;
 mod matching;
 mod offline;
 mod refusal;
 mod served;
 mod set_loading;
 mod status;
-#[cfg(test)]
-mod tests;
 
 pub use gate_world::{
     Files, FixedFiles, FixedSink, FixedSource, NamedBytes, NoFields, Policy, Read, Sink, Source,
     WriteFailed, Wrote, write_all,
 };
-pub use laws::{one_answer_to_a_request, one_fault_of_a_set, one_thing_is_served};
 pub use offline::run_offline;
 pub use status::Status;

@@ -5,7 +5,7 @@ ghost use Rattle.gateway_run.specs.PathPieces.{HasNoSlash, IsPieceEnd, BeginsWit
 ghost use Rattle.gateway_run.specs.OneRoute.{IsSomeTemplateOf};
 ghost use Rattle.http_rules.specs.TemplateMatch.{Matches, Fits, IsPath, slashed};
 
-use http_rules::{Segment, Template};
+use http_rules::{Segment, Template, laws};
 
 /// Where a piece that begins the text ends: at the first slash, or at the end.
 fn piece_len(text: &[u8]) -> usize
@@ -89,6 +89,9 @@ pub(crate) fn variable_span(template: &Template, path: &[u8]) -> Option<(usize, 
     requires path { IsPath path.now }
     ensures { MatchOption result (Fits template.now path.now → ⊥) (λ span. Matches template.now path.now (span ∷ []) × (span.0 ≤ span.1) × (span.1 ≤ length path.now)) }
 {
+    laws::segments_are_lawful();
+    laws::literals_have_no_slash();
+    laws::spans_lie_inside();
     if !take_all(template.segments.as_slice(), path) {
         return None;
     }

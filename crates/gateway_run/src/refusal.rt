@@ -1,30 +1,49 @@
-//! Why a request is refused, in the order in which the causes are tried.
+//! Why a request is refused.
 ghost use Rattle.std.specs.Prelude.{◌≡◌};
-ghost use Rattle.gateway_run.specs.Outcomes.{refusal_line};
+ghost use Rattle.gateway_run.specs.RefusalLines.{cause_of, refusal_detail, refusal_status};
+
+use gate_world::{Detail, Refusal};
+
+/// The HTTP status of a request of a form that is not served yet.
+const NOT_BUILT_STATUS: u16 = 501;
 
 /// Why a request is refused.
 #[derive(Debug, Clone, Copy, PartialEq, Eq)]
-pub(crate) enum Refusal {
+pub(crate) enum RequestRefusal {
     /// The method or the target is of a form that is not served yet.
     NotBuilt,
-    /// No template fits the path.
-    PathUnknown,
-    /// The variable's value is not UTF-8.
-    PathNotUtf8,
-    /// The encoded message is too long.
-    MessageLong,
+    /// A cause of the table.
+    Listed(Refusal),
 }
 
-impl Refusal {
-    /// The line on standard error.
-    pub fn line(self) -> &'static str
-        ensures { result.now ≡ refusal_line self }
+impl RequestRefusal {
+    /// The HTTP status.
+    pub(crate) fn status(self) -> u16
+        ensures { result ≡ refusal_status self }
     {
         match self {
-            Refusal::NotBuilt => "refused 501 not built\n",
-            Refusal::PathUnknown => "refused 404 path unknown\n",
-            Refusal::PathNotUtf8 => "refused 400 path variable 1: not UTF-8\n",
-            Refusal::MessageLong => "refused 429 message too long\n",
+            RequestRefusal::NotBuilt => NOT_BUILT_STATUS,
+            RequestRefusal::Listed(refusal) => refusal.status(),
+        }
+    }
+
+    /// The text, or what of it stands in front of the value that it names.
+    pub(crate) fn cause(self) -> &'static str
+        ensures { result.now ≡ cause_of self }
+    {
+        match self {
+            RequestRefusal::NotBuilt => "not built",
+            RequestRefusal::Listed(refusal) => refusal.cause(),
+        }
+    }
+
+    /// The value that it names, where it names one.
+    pub(crate) fn detail(self) -> Option<Detail>
+        ensures { result ≡ refusal_detail self }
+    {
+        match self {
+            RequestRefusal::NotBuilt => None,
+            RequestRefusal::Listed(refusal) => refusal.detail(),
         }
     }
 }

@@ -3,23 +3,24 @@ ghost use Rattle.std.specs.Prelude.{◌≡◌, option_map};
 ghost use Rattle.gateway_run.specs.OneRoute.{one_route, only_number, route_of};
 ghost use Rattle.gateway_run.specs.ServedView.{served_view};
 
+use base::{List, Text};
 use http_rules::{Binding, Template};
-use schema::{List, Text, TypeId, Types};
+use schema::{TypeId, Types};
 use schema_link::{Api, MethodInfo};
 
 /// The route of an API that has one.
 #[derive(Debug, Clone, Copy)]
 pub(crate) struct Served<'a> {
     /// The types.
-    pub types: &'a Types,
+    pub(crate) types: &'a Types,
     /// The type of the request's message.
-    pub input: TypeId,
+    pub(crate) input: TypeId,
     /// The gRPC path of the method.
-    pub path: &'a Text,
+    pub(crate) path: &'a Text,
     /// The template of the binding.
-    pub template: &'a Template,
+    pub(crate) template: &'a Template,
     /// The number of the field that the template's variable sets.
-    pub number: u32,
+    pub(crate) number: u32,
 }
 
 /// The number of paths of which there is one, of one number.

@@ -4,9 +4,9 @@ ghost use Rattle.gate_world.specs.Causes.{Rose};
 ghost use Rattle.gateway_run.specs.Outcomes.{Gives};
 
 use crate::status::Stop;
+use base::NoMemory;
 use descriptor_set::MAX_SET_BYTES;
 use gate_world::{Files, Read};
-use schema::NoMemory;
 use std::alloc::Global;
 
 /// How many bytes are asked for at a time.

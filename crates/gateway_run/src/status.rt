@@ -1,11 +1,14 @@
 //! How a command ends.
 ghost use Rattle.gateway_run.specs.declared.status.Stop.TheVariants.{NoMemory as no_memory};
 ghost use Rattle.std.specs.Prelude.{◌≡◌};
-ghost use Rattle.gateway_run.specs.Outcomes.{number_of, stop_status};
+ghost use Rattle.gateway_run.specs.Outcomes.{number_of, stop_status, unlinked_stop, unread_stop};
 
 use crate::descriptor_fault::DescriptorFault;
-use crate::refusal::Refusal;
-use schema::NoMemory;
+use crate::refusal::RequestRefusal;
+use base::NoMemory;
+use descriptor_set::SetFault;
+use gate_world::Refusal;
+use schema_link::LinkFault;
 
 /// How a command ended.
 #[derive(Debug, Clone, Copy, PartialEq, Eq)]
@@ -57,12 +60,19 @@ pub(crate) enum Stop {
     /// Out of memory.
     NoMemory,
     /// The request is refused.
-    Refused(Refusal),
+    Refused(RequestRefusal),
 }
 
 impl Stop {
+    /// The request is refused for a cause of the table.
+    pub(crate) fn listed(refusal: Refusal) -> Stop
+        ensures { result ≡ Stop.Refused (RequestRefusal.Listed refusal) }
+    {
+        Stop::Refused(RequestRefusal::Listed(refusal))
+    }
+
     /// The status.
-    pub fn status(&self) -> Status
+    pub(crate) fn status(&self) -> Status
         ensures { result ≡ stop_status self.now }
     {
         match self {
@@ -72,6 +82,28 @@ impl Stop {
             Stop::WriteFault => Status::WriteFault,
             Stop::NoMemory => Status::NoMemory,
             Stop::Refused(_) => Status::Refused,
+        }
+    }
+}
+
+impl From<SetFault> for Stop {
+    ghost from_gives = { λ fault stop. stop ≡ unread_stop fault };
+
+    fn from(fault: SetFault) -> Stop {
+        match fault {
+            SetFault::NoMemory => Stop::NoMemory,
+            fault => Stop::Descriptors(DescriptorFault::Unread(fault)),
+        }
+    }
+}
+
+impl From<LinkFault> for Stop {
+    ghost from_gives = { λ fault stop. stop ≡ unlinked_stop fault };
+
+    fn from(fault: LinkFault) -> Stop {
+        match fault {
+            LinkFault::NoMemory => Stop::NoMemory,
+            fault => Stop::Descriptors(DescriptorFault::Unlinked(fault)),
         }
     }
 }

@@ -1,14 +1,13 @@
 -- What is framed is read back, and what is read is what was framed.
-use Rattle.std.proofs.Common.{◌≡◌, ◌<◌, ◌≤◌, ◌+◌, ◌^◌, ◌++◌, ℕ, suc, zero, List, [], ◌∷◌, length, take, drop, cond, nat_lt, arith, refl, ap, ap₂, ◌∙◌, get_or, append_assoc}
+use Rattle.std.proofs.Common.{◌≡◌, ◌<◌, ◌≤◌, ◌+◌, ◌^◌, ◌++◌, ℕ, List, [], ◌∷◌, length, cond, nat_lt, arith, refl, ap, ap₂, ◌∙◌, append_assoc}
 use Rattle.std.proofs.lemmas.Bool.{le-ltb}
 use Rattle.std.proofs.lemmas.List.{take_all}
 use Rattle.std.proofs.lemmas.Nat.{from_be_bytes-to_be_bytes_4}
 use Rattle.std.proofs.Math.ListN.{drop_of_length-le}
 use Rattle.std.specs.List.{AllByRecursion}
 use Rattle.grpc_frames.specs.LengthPrefixed.{length_prefixed, all_length_prefixed, LengthOverLimit, BadPrefix, Sized, prefix_of, Complete, front, after_messages, deframed_of}
-use Rattle.grpc_frames.specs.Pieces.{joined}
-use Rattle.grpc_frames.proofs.FrontLemmas.{complete-front}
-use Rattle.grpc_frames.proofs.SplitLemmas.{complete-grows, deframed_of-at}
+use Rattle.grpc_frames.proofs.FrontLemmas.{complete_front}
+use Rattle.grpc_frames.proofs.SplitLemmas.{complete_grows, deframed_of_at}
 
 -- a length within the limit is taken
 size_step : (limit n k : ℕ) → k ≡ n → n ≤ limit → cond (nat_lt limit k) (BadPrefix (LengthOverLimit k)) (Sized k) ≡ Sized n
@@ -23,12 +22,12 @@ length_prefixed-length : (m : List ℕ) → length (length_prefixed m) ≡ 5 + l
 length_prefixed-length m = omega arith
 
 -- a message that is framed is whole, whatever comes behind it
-length_prefixed-front : (limit : ℕ) (m more : List ℕ) → length m ≤ limit → length m < 2 ^ 32 → front limit (length_prefixed m ++ more) ≡ Complete m more
-length_prefixed-front limit m more h k =
+length_prefixed_front : (limit : ℕ) (m more : List ℕ) → length m ≤ limit → length m < 2 ^ 32 → front limit (length_prefixed m ++ more) ≡ Complete m more
+length_prefixed_front limit m more h k =
     let l : 5 + length m ≤ length (length_prefixed m) = omega (arith, length_prefixed-length m) in
     let g : length (length_prefixed m) ≤ 5 + length m = omega (arith, length_prefixed-length m) in
     let a : length m ≤ length m = omega arith in
-    complete-grows limit (length_prefixed m) more m [] (complete-front limit (length_prefixed m) (length m) (length_prefixed-prefix_of limit m h k) l ∙ ap₂ Complete (take_all (length m) m a) (drop_of_length-le (length_prefixed m) {i = 5 + length m} g))
+    complete_grows limit (length_prefixed m) more m [] (complete_front limit (length_prefixed m) (length m) (length_prefixed-prefix_of limit m h k) l ∙ ap₂ Complete (take_all (length m) m a) (drop_of_length-le (length_prefixed m) {i = 5 + length m} g))
 
 -- messages within the limit are read back, whatever comes behind them
 pub deframed_of-all_length_prefixed : (limit : ℕ) (ms : List (List ℕ)) (more : List ℕ) → limit < 2 ^ 32 → AllByRecursion (λ m. length m ≤ limit) ms → deframed_of limit (all_length_prefixed ms ++ more) ≡ after_messages ms (deframed_of limit more)
@@ -38,10 +37,4 @@ deframed_of-all_length_prefixed limit (m ∷ ms) more h k =
     let s : length m < 2 ^ 32 = omega arith in
     let rest = all_length_prefixed ms ++ more in
     ap (deframed_of limit) (append_assoc (length_prefixed m) (all_length_prefixed ms) more)
-    ∙ deframed_of-at limit (length_prefixed m ++ rest) (Complete m rest) (length_prefixed-front limit m rest l s) ∙ ap (after_messages (m ∷ [])) (deframed_of-all_length_prefixed limit ms more h k.1)
-
--- the pieces before one, that one, and the others
-pub joined-at : (ps : List (List ℕ)) (i : ℕ) (p : List ℕ) → i < length ps → p ≡ get_or ps i p → joined (take i ps) ++ (p ++ joined (drop (suc i) ps)) ≡ joined ps
-joined-at [] i p h e = absurd (omega arith)
-joined-at (x ∷ xs) zero p h e = ap (λ y. y ++ joined xs) e
-joined-at (x ∷ xs) (suc i) p h e = append_assoc x (joined (take i xs)) (p ++ joined (drop (suc i) xs)) ∙ ap (λ y. x ++ y) (joined-at xs i p (omega arith) e)
+    ∙ deframed_of_at limit (length_prefixed m ++ rest) (Complete m rest) (length_prefixed_front limit m rest l s) ∙ ap (after_messages (m ∷ [])) (deframed_of-all_length_prefixed limit ms more h k.1)

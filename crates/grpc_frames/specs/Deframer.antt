@@ -1,5 +1,6 @@
 -- What a deframer keeps of a stream of length-prefixed messages, and the streams for which it stands.
-use Rattle.std.specs.Prelude.{◌≡◌, ◌-◌, ◌^◌, ℕ, List, length, min, Option, Some, None}
+use Rattle.std.specs.Prelude.{◌≡◌, ◌-◌, ℕ, List, length, Option, Some, None}
+use Rattle.base.specs.Saturated.{saturated}
 use Rattle.grpc_frames.specs.declared.fault.FrameFault.{FrameFault}
 use Rattle.grpc_frames.specs.declared.fault.FrameFault.TheVariants.{Compressed, BadFlag, TooLong, Cut, NoMemory}
 use Rattle.grpc_frames.specs.LengthPrefixed.{FramingError, CompressedFlag, ReservedFlag, LengthOverLimit, deframed_of, MessageStream}
@@ -22,10 +23,6 @@ fault_at place CompressedFlag = Compressed place
 fault_at place ReservedFlag = BadFlag place
 fault_at place (LengthOverLimit n) = TooLong place n
 
--- a place in 64 bits: past the last number it stays there
-abbrev pub saturated : ℕ → ℕ
-saturated n = min n (2 ^ 64 - 1)
-
 -- a fact that holds of each fault but that memory was not found, of which nothing is said
 abbrev pub UnlessNoMemory : FrameFault → Type 0 → Type 0
 UnlessNoMemory NoMemory P = Unit {0}
@@ -33,6 +30,14 @@ UnlessNoMemory (Compressed place) P = P
 UnlessNoMemory (BadFlag place) P = P
 UnlessNoMemory (TooLong place n) P = P
 UnlessNoMemory (Cut place) P = P
+
+-- the fault is not that the stream ended inside a message
+abbrev pub IsNoCut : FrameFault → Type 0
+IsNoCut (Cut place) = ⊥
+IsNoCut NoMemory = Unit {0}
+IsNoCut (Compressed place) = Unit {0}
+IsNoCut (BadFlag place) = Unit {0}
+IsNoCut (TooLong place n) = Unit {0}
 
 -- the fault is the error of a stream of so many bytes, at the place of its flag
 pub record IsFirstFault (stream : MessageStream) (size : ℕ) (fault : FrameFault) : Type 0 where

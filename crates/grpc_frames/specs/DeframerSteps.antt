@@ -9,7 +9,8 @@ use Rattle.grpc_frames.specs.declared.deframer.Progress.TheVariants as progress
 use Rattle.grpc_frames.specs.declared.deframer.Deframed.{Deframed as Fed}
 use Rattle.grpc_frames.specs.declared.fault.FrameFault.{FrameFault}
 use Rattle.grpc_frames.specs.LengthPrefixed.{FramingError, CompressedFlag, ReservedFlag, LengthOverLimit, Prefix, Open, BadPrefix, Sized, Incomplete, Malformed, Complete, front}
-use Rattle.grpc_frames.specs.Deframer.{DeframerState, fault_at, saturated, UnlessNoMemory}
+use Rattle.base.specs.Saturated.{saturated}
+use Rattle.grpc_frames.specs.Deframer.{DeframerState, fault_at, UnlessNoMemory}
 
 -- the error that the code calls so
 abbrev pub error_of : PrefixFault → FramingError

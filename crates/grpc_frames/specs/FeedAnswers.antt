@@ -4,7 +4,8 @@ use Rattle.grpc_frames.specs.declared.deframer.Deframed.{Deframed as Fed}
 use Rattle.grpc_frames.specs.declared.fault.FrameFault.{FrameFault}
 use Rattle.grpc_frames.specs.declared.fault.FrameFault.TheVariants.{Compressed, BadFlag, TooLong, Cut, NoMemory}
 use Rattle.grpc_frames.specs.LengthPrefixed.{deframed_of}
-use Rattle.grpc_frames.specs.Deframer.{saturated, UnlessNoMemory, IsFirstFault}
+use Rattle.base.specs.Saturated.{saturated}
+use Rattle.grpc_frames.specs.Deframer.{UnlessNoMemory, IsFirstFault}
 
 -- the bytes that a call adds to the stream: those that it took, or all of them where it refused
 abbrev pub fed_bytes : Result Fed FrameFault → List ℕ → List ℕ

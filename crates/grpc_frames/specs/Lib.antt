@@ -1,5 +1,5 @@
 pub mod LengthPrefixed
-pub mod Pieces
 pub mod Deframer
 pub mod FeedAnswers
 pub mod DeframerSteps
+pub mod DeframerRuns

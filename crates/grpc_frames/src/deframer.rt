@@ -1,13 +1,14 @@
 //! Taking messages from a stream that comes in any pieces.
 ghost use Rattle.std.specs.Prelude.{◌≡◌, ◌++◌, ◌+◌, ◌<◌, ◌≤◌, ◌-◌, ◌↔◌, ℕ, List, [], length, drop, min, take, IfOk, IfErr, IfSome, IsOk, IsSome, OnOk, OnErr};
 ghost use Rattle.grpc_frames.specs.LengthPrefixed.{front, Incomplete};
-ghost use Rattle.grpc_frames.specs.Deframer.{Stands, buffered_bytes, saturated};
+ghost use Rattle.base.specs.Saturated.{saturated};
+ghost use Rattle.grpc_frames.specs.Deframer.{Stands, buffered_bytes, IsNoCut};
 ghost use Rattle.grpc_frames.specs.DeframerSteps.{IsProgress, IsStep};
 ghost use Rattle.grpc_frames.specs.FeedAnswers.{fed_bytes, Answers, EndsBetweenMessages, IsEndFault};
 
 use crate::fault::FrameFault;
 use crate::prefix::{PREFIX_BYTES, PrefixFault, PrefixSeen, read_prefix};
-use schema::{Blob, NoMemory};
+use base::{Blob, NoMemory};
 use std::alloc::Global;
 use std::marker::Model;
 use std::mem;
@@ -48,13 +49,20 @@ impl Model for Deframer {
     ghost use Rattle.std.specs.Prelude.{◌≡◌, ◌≤◌, ◌+◌, length};
     ghost use Rattle.std.specs.Option.{IfNone};
     ghost use Rattle.grpc_frames.specs.LengthPrefixed.{front, Incomplete};
-    ghost use Rattle.grpc_frames.specs.Deframer.{DeframerState};
+    ghost use Rattle.std.specs.Option.{IfSome};
+    ghost use Rattle.grpc_frames.specs.Deframer.{DeframerState, IsNoCut};
 
     ghost Value = { DeframerState };
 
-    ghost view = { λ d. record { limit = d.limit; place = d.place; rest = d.rest.items; refused = d.refused } };
+    ghost view = { λ d. record {
+      limit = d.limit;
+      place = d.place;
+      rest = d.rest.items;
+      refused = d.refused;
+    } };
 
-    ghost invariant = { λ d. (IfNone d.refused (front d.limit d.rest.items ≡ Incomplete)) × (length d.rest.items ≤ d.limit + 5) };
+    ghost invariant = { λ d. (IfNone d.refused (front d.limit d.rest.items ≡ Incomplete))
+        × (length d.rest.items ≤ d.limit + 5) × IfSome d.refused IsNoCut };
 }
 
 impl Deframer {
@@ -85,6 +93,7 @@ impl Deframer {
         ensures sticky { IfSome self.old.refused (λ f. (result ≡ Err f) × (self.new ≡ self.old)) }
         ensures refused { IfErr result (λ f. self.new.refused ≡ Some f) }
         ensures accepted { OnOk result (self.new.refused ≡ None) }
+        ensures open { IfErr result IsNoCut }
         ensures bounded { buffered_bytes self.new ≤ self.new.limit + 5 }
     {
         match self.refused {
@@ -120,6 +129,7 @@ impl Deframer {
         ensures step { IsStep self.old bytes.now result self.new }
         ensures within { IfOk result (λ d. d.taken ≤ length bytes.now) }
         ensures moves { IfOk result (λ d. IsSome d.message → 0 < d.taken) }
+        ensures open { IfErr result IsNoCut }
         ensures bounded { buffered_bytes self.new ≤ self.new.limit + 5 }
     {
         match take_in(self.limit, &mut self.rest, bytes) {

@@ -2,7 +2,7 @@
 ghost use Rattle.std.specs.Prelude.{◌≡◌};
 ghost use Rattle.grpc_frames.specs.declared.fault.FrameFault.TheVariants.{NoMemory as no_memory};
 
-use schema::NoMemory;
+use base::NoMemory;
 use std::error::Error;
 use std::fmt;
 

@@ -1,17 +1,17 @@
 //! The flag and the length before a message.
 ghost use Rattle.std.specs.Prelude.{◌≡◌};
-ghost use Rattle.grpc_frames.specs.Deframer.{fault_at};
+ghost use Rattle.grpc_frames.specs.Deframer.{fault_at, IsNoCut};
 ghost use Rattle.grpc_frames.specs.LengthPrefixed.{prefix_of};
 ghost use Rattle.grpc_frames.specs.DeframerSteps.{prefix_seen, error_of};
 
 use crate::fault::FrameFault;
 
 /// The number of bytes of a flag and a length.
-pub const PREFIX_BYTES: usize = 5;
+pub(crate) const PREFIX_BYTES: usize = 5;
 
 /// What is wrong with a flag or a length.
 #[derive(Clone, Copy)]
-pub enum PrefixFault {
+pub(crate) enum PrefixFault {
     /// The flag is 1.
     Compressed,
     /// The flag is over 1.
@@ -22,7 +22,7 @@ pub enum PrefixFault {
 
 /// What the bytes from a flag on say.
 #[derive(Clone, Copy)]
-pub enum PrefixSeen {
+pub(crate) enum PrefixSeen {
     /// Nothing is wrong so far, and the length is not whole.
     Open,
     /// What is wrong.
@@ -33,8 +33,9 @@ pub enum PrefixSeen {
 
 impl PrefixFault {
     /// The fault of a message whose flag stands at the place.
-    pub fn at(self, place: u64) -> FrameFault
-        ensures { result ≡ fault_at place (error_of self) }
+    pub(crate) fn at(self, place: u64) -> FrameFault
+        ensures fault { result ≡ fault_at place (error_of self) }
+        ensures open { IsNoCut result }
     {
         match self {
             PrefixFault::Compressed => FrameFault::Compressed(place),
@@ -45,7 +46,7 @@ impl PrefixFault {
 }
 
 /// What the bytes from a flag on say, under a limit on the length.
-pub fn read_prefix(limit: u32, bytes: &[u8]) -> PrefixSeen
+pub(crate) fn read_prefix(limit: u32, bytes: &[u8]) -> PrefixSeen
     ensures { prefix_seen result ≡ prefix_of limit bytes.now }
 {
     match bytes {

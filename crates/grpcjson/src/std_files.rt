@@ -23,7 +23,7 @@ pub(crate) struct StdFiles<'a, R> {
 
 impl<'a, R> StdFiles<'a, R> {
     /// No read failed so far.
-    pub fn new(rt: &'a R) -> StdFiles<'a, R> {
+    pub(crate) fn new(rt: &'a R) -> StdFiles<'a, R> {
         StdFiles { rt, faults: 0 }
     }
 }

@@ -13,7 +13,7 @@ pub(crate) struct StdSource<I> {
 
 impl<I> StdSource<I> {
     /// No read failed so far.
-    pub fn new(reader: I) -> StdSource<I> {
+    pub(crate) fn new(reader: I) -> StdSource<I> {
         StdSource { reader, faults: 0 }
     }
 }
@@ -59,7 +59,7 @@ pub(crate) struct StdSink {
 
 impl StdSink {
     /// No write failed so far.
-    pub fn new(stream: Stream) -> StdSink {
+    pub(crate) fn new(stream: Stream) -> StdSink {
         StdSink { stream, faults: 0 }
     }
 }

@@ -11,32 +11,37 @@ nothing_judged : (b : Bool) (o : Option ℕ) → judge (record { first = b; bloc
 nothing_judged true o = refl
 nothing_judged false o = refl
 
+-- no bytes break no rule
 pub nothing_fine : (at : Context) → IsNoFault (judge at [])
 nothing_fine at = subst IsNoFault (sym (nothing_judged at.first at.block)) tt
 
-pub front-nothing : (at : Context) → front at [] ≡ Short
-front-nothing at = ap (λ j. front_of j []) (nothing_judged at.first at.block)
+-- no bytes are less than a frame
+pub front_nothing : (at : Context) → front at [] ≡ Short
+front_nothing at = ap (λ j. front_of j []) (nothing_judged at.first at.block)
 
 -- the length of the payload is in the first three bytes
-pub size-append : (b : ℕ) (bs more : List ℕ) → 3 ≤ length bs → length_with b (bs ++ more) ≡ length_with b bs
-size-append b bs more h =
+pub size_append : (b : ℕ) (bs more : List ℕ) → 3 ≤ length bs → length_with b (bs ++ more) ≡ length_with b bs
+size_append b bs more h =
     let x : 0 < length bs = omega arith in
     let y : 1 < length bs = omega arith in
     let z : 2 < length bs = omega arith in
     rw (get_or_append_left bs more b 0 x, get_or_append_left bs more b 1 y, get_or_append_left bs more b 2 z) refl
 
-pub size-take : (b n : ℕ) (bs : List ℕ) → 3 ≤ n → length_with b (take n bs) ≡ length_with b bs
-size-take b n bs h =
+-- the length is that of the first three bytes
+pub size_take : (b n : ℕ) (bs : List ℕ) → 3 ≤ n → length_with b (take n bs) ≡ length_with b bs
+size_take b n bs h =
     let x : 0 < n = omega arith in
     let y : 1 < n = omega arith in
     let z : 2 < n = omega arith in
     rw (get_or-take n bs 0 b x, get_or-take n bs 1 b y, get_or-take n bs 2 b z) refl
 
-pub judged-few : (bs : List ℕ) → length bs < 9 → judged bs ≡ bs
-judged-few bs h = ap (λ b. cond b bs (take (min 10 (frame_size bs)) bs)) (lt-ltb (length bs) 9 h)
+-- all of less than a head is judged
+pub judged_few : (bs : List ℕ) → length bs < 9 → judged bs ≡ bs
+judged_few bs h = ap (λ b. cond b bs (take (min 10 (frame_size bs)) bs)) (lt-ltb (length bs) 9 h)
 
-pub judged-many : (bs : List ℕ) → 9 ≤ length bs → judged bs ≡ take (min 10 (frame_size bs)) bs
-judged-many bs h = ap (λ b. cond b bs (take (min 10 (frame_size bs)) bs)) (le-ltb (length bs) 9 h)
+-- of a frame ten bytes are judged
+pub judged_many : (bs : List ℕ) → 9 ≤ length bs → judged bs ≡ take (min 10 (frame_size bs)) bs
+judged_many bs h = ap (λ b. cond b bs (take (min 10 (frame_size bs)) bs)) (le-ltb (length bs) 9 h)
 
 -- bytes with a whole frame at their front
 pub record IsWhole (at : Context) (bs frame rest : List ℕ) : Type 0 where
@@ -57,54 +62,64 @@ whole_by at bs frame rest (Fault code) h e = absurd (cc)
 whole_by at bs frame rest Open h e = whole_step at bs frame rest (nat_lt (length bs) 9) (nat_lt (length bs) (frame_size bs)) (ltb-false (length bs) 9) (ltb-false (length bs) (frame_size bs)) (subst IsNoFault (sym h) tt) e
 whole_by at bs frame rest Fine h e = whole_step at bs frame rest (nat_lt (length bs) 9) (nat_lt (length bs) (frame_size bs)) (ltb-false (length bs) 9) (ltb-false (length bs) (frame_size bs)) (subst IsNoFault (sym h) tt) e
 
-pub front-whole : (at : Context) (bs frame rest : List ℕ) → front at bs ≡ Whole frame rest → IsWhole at bs frame rest
-front-whole at bs frame rest e = whole_by at bs frame rest (judge at (judged bs)) refl e
+-- a frame at the front is whole and breaks no rule
+pub front_whole : (at : Context) (bs frame rest : List ℕ) → front at bs ≡ Whole frame rest → IsWhole at bs frame rest
+front_whole at bs frame rest e = whole_by at bs frame rest (judge at (judged bs)) refl e
 
 no_fault_front : (j : Judgement) (bs : List ℕ) → IsNoFault j → front_of j bs ≡ whole_of bs
 no_fault_front Open bs h = refl
 no_fault_front Fine bs h = refl
 no_fault_front (Fault code) bs h = absurd h
 
-pub fine-front : (at : Context) (bs : List ℕ) → IsNoFault (judge at (judged bs)) → front at bs ≡ whole_of bs
-fine-front at bs h = no_fault_front (judge at (judged bs)) bs h
+-- where no rule is broken, the front is a frame or less
+pub fine_front : (at : Context) (bs : List ℕ) → IsNoFault (judge at (judged bs)) → front at bs ≡ whole_of bs
+fine_front at bs h = no_fault_front (judge at (judged bs)) bs h
 
-pub whole-of : (bs : List ℕ) → 9 ≤ length bs → frame_size bs ≤ length bs → whole_of bs ≡ Whole (take (frame_size bs) bs) (drop (frame_size bs) bs)
-whole-of bs p q = ap (λ b. cond b Short (cond (nat_lt (length bs) (frame_size bs)) Short (Whole (take (frame_size bs) bs) (drop (frame_size bs) bs)))) (le-ltb (length bs) 9 p)
+-- enough bytes are a whole frame
+pub whole_front_of : (bs : List ℕ) → 9 ≤ length bs → frame_size bs ≤ length bs → whole_of bs ≡ Whole (take (frame_size bs) bs) (drop (frame_size bs) bs)
+whole_front_of bs p q = ap (λ b. cond b Short (cond (nat_lt (length bs) (frame_size bs)) Short (Whole (take (frame_size bs) bs) (drop (frame_size bs) bs)))) (le-ltb (length bs) 9 p)
     ∙ ap (λ b. cond b Short (Whole (take (frame_size bs) bs) (drop (frame_size bs) bs))) (le-ltb (length bs) (frame_size bs) q)
 
-pub short-few : (bs : List ℕ) → length bs < 9 → whole_of bs ≡ Short
-short-few bs p = ap (λ b. cond b Short (cond (nat_lt (length bs) (frame_size bs)) Short (Whole (take (frame_size bs) bs) (drop (frame_size bs) bs)))) (lt-ltb (length bs) 9 p)
+-- less than a head is less than a frame
+pub short_few : (bs : List ℕ) → length bs < 9 → whole_of bs ≡ Short
+short_few bs p = ap (λ b. cond b Short (cond (nat_lt (length bs) (frame_size bs)) Short (Whole (take (frame_size bs) bs) (drop (frame_size bs) bs)))) (lt-ltb (length bs) 9 p)
 
-pub short-cut : (bs : List ℕ) → 9 ≤ length bs → length bs < frame_size bs → whole_of bs ≡ Short
-short-cut bs p q = ap (λ b. cond b Short (cond (nat_lt (length bs) (frame_size bs)) Short (Whole (take (frame_size bs) bs) (drop (frame_size bs) bs)))) (le-ltb (length bs) 9 p)
+-- less than the payload is less than a frame
+pub short_cut : (bs : List ℕ) → 9 ≤ length bs → length bs < frame_size bs → whole_of bs ≡ Short
+short_cut bs p q = ap (λ b. cond b Short (cond (nat_lt (length bs) (frame_size bs)) Short (Whole (take (frame_size bs) bs) (drop (frame_size bs) bs)))) (le-ltb (length bs) 9 p)
     ∙ ap (λ b. cond b Short (Whole (take (frame_size bs) bs) (drop (frame_size bs) bs))) (lt-ltb (length bs) (frame_size bs) q)
 
-pub whole-front : (at : Context) (bs : List ℕ) → 9 ≤ length bs → frame_size bs ≤ length bs → IsNoFault (judge at (judged bs)) → front at bs ≡ Whole (take (frame_size bs) bs) (drop (frame_size bs) bs)
-whole-front at bs p q h = fine-front at bs h ∙ whole-of bs p q
+-- enough bytes that break no rule have a whole frame at the front
+pub whole_front : (at : Context) (bs : List ℕ) → 9 ≤ length bs → frame_size bs ≤ length bs → IsNoFault (judge at (judged bs)) → front at bs ≡ Whole (take (frame_size bs) bs) (drop (frame_size bs) bs)
+whole_front at bs p q h = fine_front at bs h ∙ whole_front_of bs p q
 
+-- more bytes change no size of a frame
 pub frame_size-append : (bs more : List ℕ) → 9 ≤ length bs → frame_size (bs ++ more) ≡ frame_size bs
-frame_size-append bs more h = let k : 3 ≤ length bs = omega arith in ap (λ n. 9 + n) (size-append 0 bs more k)
+frame_size-append bs more h = let k : 3 ≤ length bs = omega arith in ap (λ n. 9 + n) (size_append 0 bs more k)
 
-pub judged-append : (bs more : List ℕ) → 9 ≤ length bs → frame_size bs ≤ length bs → judged (bs ++ more) ≡ judged bs
-judged-append bs more p q =
+-- more bytes change nothing of what is judged of a whole frame
+pub judged_append : (bs more : List ℕ) → 9 ≤ length bs → frame_size bs ≤ length bs → judged (bs ++ more) ≡ judged bs
+judged_append bs more p q =
     let l : 9 ≤ length (bs ++ more) = simp length-append (omega arith) in
     let m : min 10 (frame_size bs) ≤ length bs = omega arith in
-    judged-many (bs ++ more) l ∙ ap (λ n. take (min 10 n) (bs ++ more)) (frame_size-append bs more p) ∙ take-append-le (min 10 (frame_size bs)) bs more m ∙ sym (judged-many bs p)
+    judged_many (bs ++ more) l ∙ ap (λ n. take (min 10 n) (bs ++ more)) (frame_size-append bs more p) ∙ take-append-le (min 10 (frame_size bs)) bs more m ∙ sym (judged_many bs p)
 
-pub whole-grows : (at : Context) (bs more frame rest : List ℕ) → front at bs ≡ Whole frame rest → front at (bs ++ more) ≡ Whole frame (rest ++ more)
-whole-grows at bs more frame rest e =
-    let w : IsWhole at bs frame rest = front-whole at bs frame rest e in
+-- a whole frame stays, whatever comes behind it
+pub whole_grows : (at : Context) (bs more frame rest : List ℕ) → front at bs ≡ Whole frame rest → front at (bs ++ more) ≡ Whole frame (rest ++ more)
+whole_grows at bs more frame rest e =
+    let w : IsWhole at bs frame rest = front_whole at bs frame rest e in
     let p : 9 ≤ length bs = w.nine in
     let q : frame_size bs ≤ length bs = w.enough in
     let s : frame_size (bs ++ more) ≡ frame_size bs = frame_size-append bs more p in
     let l : 9 ≤ length (bs ++ more) = simp length-append (omega arith) in
     let m : frame_size bs ≤ length (bs ++ more) = simp length-append (omega arith) in
-    whole-front at (bs ++ more) l (subst (λ n. n ≤ length (bs ++ more)) (sym s) m) (subst (λ xs. IsNoFault (judge at xs)) (sym (judged-append bs more p q)) w.fine)
+    whole_front at (bs ++ more) l (subst (λ n. n ≤ length (bs ++ more)) (sym s) m) (subst (λ xs. IsNoFault (judge at xs)) (sym (judged_append bs more p q)) w.fine)
     ∙ ap₂ Whole (ap (λ n. take n (bs ++ more)) s ∙ take-append-le (frame_size bs) bs more q ∙ sym w.frame_is) (ap (λ n. drop n (bs ++ more)) s ∙ drop-append-le (frame_size bs) bs more q ∙ ap (λ xs. xs ++ more) (sym w.rest_is))
 
-pub whole-less : (at : Context) (bs frame rest : List ℕ) → front at bs ≡ Whole frame rest → length bs ≡ length frame + length rest × (9 ≤ length frame)
-whole-less at bs frame rest e =
-    let w : IsWhole at bs frame rest = front-whole at bs frame rest e in
+-- a whole frame has nine bytes at least
+pub whole_less : (at : Context) (bs frame rest : List ℕ) → front at bs ≡ Whole frame rest → length bs ≡ length frame + length rest × (9 ≤ length frame)
+whole_less at bs frame rest e =
+    let w : IsWhole at bs frame rest = front_whole at bs frame rest e in
     let q : frame_size bs ≤ length bs = w.enough in
     let a : length frame ≡ min (frame_size bs) (length bs) = ap length w.frame_is ∙ length-take (frame_size bs) bs in
     let b : length rest ≡ length bs - frame_size bs = ap length w.rest_is ∙ length-drop (frame_size bs) bs in
@@ -120,8 +135,10 @@ broken_by bs code (Fault c) e = cc
 broken_by bs code Open e = absurd (broken_step bs code _ _ _ _ e)
 broken_by bs code Fine e = absurd (broken_step bs code _ _ _ _ e)
 
-pub front-broken : (at : Context) (bs : List ℕ) (code : ℕ) → front at bs ≡ Broken code → judge at (judged bs) ≡ Fault code
-front-broken at bs code e = broken_by bs code (judge at (judged bs)) e
+-- a broken front has a fault
+pub front_broken : (at : Context) (bs : List ℕ) (code : ℕ) → front at bs ≡ Broken code → judge at (judged bs) ≡ Fault code
+front_broken at bs code e = broken_by bs code (judge at (judged bs)) e
 
-pub broken-front : (at : Context) (bs : List ℕ) (code : ℕ) → judge at (judged bs) ≡ Fault code → front at bs ≡ Broken code
-broken-front at bs code h = ap (λ j. front_of j bs) h
+-- a fault breaks the front
+pub broken_front : (at : Context) (bs : List ℕ) (code : ℕ) → judge at (judged bs) ≡ Fault code → front at bs ≡ Broken code
+broken_front at bs code h = ap (λ j. front_of j bs) h

@@ -1,22 +1,26 @@
 -- Calls of a reader one after another.
-use Rattle.std.proofs.Common.{◌≡◌, ◌≢◌, ◌<◌, ◌≤◌, ◌+◌, ◌-◌, ◌++◌, ℕ, List, [], ◌∷◌, length, take, drop, min, cond, arith, refl, sym, ap, ap₂, subst, ◌∙◌, length-append, length-take, append-nil, append_assoc, Option, Some, None, Ok, Err, map}
+use Rattle.std.proofs.Common.{◌≡◌, ◌≢◌, ◌<◌, ◌≤◌, ◌+◌, ◌-◌, ◌++◌, ℕ, List, [], length, take, drop, min, cond, arith, refl, sym, ap, ap₂, subst, ◌∙◌, length-append, length-take, append-nil, append_assoc, Option, Some, None, Ok, Err, map}
 use Rattle.std.proofs.lemmas.Bool.{le-ltb, lt-ltb}
 use Rattle.std.proofs.lemmas.List.{drop-append-le, get_or_append_left, take-append-drop}
 use Rattle.std.proofs.Math.ListN.{drop_of_length-le}
 use Rattle.std.specs.Option.{option_to_list}
+use Rattle.base.specs.PiecewiseReading.{FeedCall, IsRun, AddsTaken, taken_in_all}
+use Rattle.base.proofs.PiecewiseLemmas.{run_stands}
+use Rattle.base.specs.Bytes.{AreBytes}
+use Rattle.base.proofs.AreBytesLemmas.{AreBytes-append, AreBytes-drop, AreBytes-take}
 use Rattle.h2_frames.specs.declared.fault.H2Fault.{H2Fault}
 use Rattle.h2_frames.specs.declared.parts.FrameFed.{FrameFed}
 use Rattle.h2_frames.specs.declared.parts.Part.{Part}
 use Rattle.h2_frames.specs.declared.parts.Part.TheVariants.{Begin, Piece, Done}
 use Rattle.h2_frames.specs.FrameHead.{length_with, stream_with, kind_of, flags_of, frame_size, Frame, frame_of}
-use Rattle.h2_frames.specs.Http2Frame.{AreBytes, AreFrames, cut, behind, front, Whole, frames_of, rest_of, first_fault}
+use Rattle.h2_frames.specs.Http2Frame.{AreFrames, cut, behind, front, Whole, frames_of, rest_of, first_fault}
 use Rattle.h2_frames.specs.FrameReader.{Position, no_bytes, bytes_read, taken_of, part_of, begin_of, fed_of, bytes_after, answer_by, answer_of, position_by, IsPart}
-use Rattle.h2_frames.specs.FrameRuns.{FeedCall, taken_in, taken_in_all, position_after_all, IsRun, Told, nothing_told, told_by, told_by_all, current_of, TellsFrames}
-use Rattle.h2_frames.proofs.FrontLemmas.{size-append, frame_size-append}
-use Rattle.h2_frames.proofs.GrowthLemmas.{either, bytes-append, bytes-take, bytes-drop}
-use Rattle.h2_frames.proofs.FaultLemmas.{fine-judged, whole-frame, frames_of-whole, frames-whole, cut-part, first_fault-append}
-use Rattle.h2_frames.proofs.FedLemmas.{taken-few, taken-many, part-none, part-begin, part-done, part-idle, part-piece}
-use Rattle.h2_frames.proofs.FreshLemmas.{no-frames, no-frames-told, nothing-fine}
+use Rattle.h2_frames.specs.FrameRuns.{Told, nothing_told, told_by, told_of, current_of, taken_by, frame_reading, TellsFrames}
+use Rattle.h2_frames.proofs.FrontLemmas.{size_append, frame_size-append}
+use Rattle.h2_frames.proofs.GrowthLemmas.{either}
+use Rattle.h2_frames.proofs.FaultLemmas.{fine_judged, whole_frame, frames_of_whole, frames_whole, cut_part, first_fault-append}
+use Rattle.h2_frames.proofs.FedLemmas.{taken_few, taken_many, part_none, part_begin, part_done, part_idle, part_piece}
+use Rattle.h2_frames.proofs.FreshLemmas.{no_frames, no_frames_told, nothing_is_fine}
 
 -- an answer that is no refusal
 pub record IsFine (p : Position) (bytes : List ℕ) (fed : FrameFed) : Type 0 where
@@ -24,18 +28,18 @@ pub record IsFine (p : Position) (bytes : List ℕ) (fed : FrameFed) : Type 0 wh
   pub taken : fed.taken ≡ taken_of p.seen bytes
   pub part : fed.part ≡ part_of p.seen bytes
 
-ok-by : (o : Option H2Fault) (given fed : FrameFed) → answer_by o given ≡ Ok fed → (o ≡ None) × (given ≡ fed)
-ok-by None given fed e = (refl, cc)
-ok-by (Some f) given fed e = absurd (cc)
+ok_by : (o : Option H2Fault) (given fed : FrameFed) → answer_by o given ≡ Ok fed → (o ≡ None) × (given ≡ fed)
+ok_by None given fed e = (refl, cc)
+ok_by (Some f) given fed e = absurd (cc)
 
-ok-fine : (p : Position) (bytes : List ℕ) (fed : FrameFed) → answer_of p bytes ≡ Ok fed → IsFine p bytes fed
-ok-fine p bytes fed e =
-    let i = ok-by (first_fault (bytes_after p bytes)) (fed_of p.seen bytes) fed e in
+ok_fine : (p : Position) (bytes : List ℕ) (fed : FrameFed) → answer_of p bytes ≡ Ok fed → IsFine p bytes fed
+ok_fine p bytes fed e =
+    let i = ok_by (first_fault (bytes_after p bytes)) (fed_of p.seen bytes) fed e in
     record { fine = i.0; taken = sym (ap (λ (x : FrameFed). x.taken) i.1); part = sym (ap (λ (x : FrameFed). x.part) i.1) }
 
-err-by : (o : Option H2Fault) (given : FrameFed) (f : H2Fault) → answer_by o given ≡ Err f → o ≡ Some f
-err-by None given f e = absurd (cc)
-err-by (Some g) given f e = let same : g ≡ f = cc in ap Some same
+err_by : (o : Option H2Fault) (given : FrameFed) (f : H2Fault) → answer_by o given ≡ Err f → o ≡ Some f
+err_by None given f e = absurd (cc)
+err_by (Some g) given f e = let same : g ≡ f = cc in ap Some same
 
 -- a caller was told what the bytes so far are
 pub record Agrees (p : Position) (told : Told) : Type 0 where
@@ -45,11 +49,11 @@ pub record Agrees (p : Position) (told : Told) : Type 0 where
   pub most : 9 ≤ length p.seen → length p.seen ≤ frame_size p.seen
   pub fine : first_fault (p.before ++ p.seen) ≡ None
 
-current-few : (seen : List ℕ) → length seen < 9 → current_of seen ≡ None
-current-few seen h = ap (λ b. cond b None (Some (frame_of seen))) (lt-ltb (length seen) 9 h)
+current_few : (seen : List ℕ) → length seen < 9 → current_of seen ≡ None
+current_few seen h = ap (λ b. cond b None (Some (frame_of seen))) (lt-ltb (length seen) 9 h)
 
-current-many : (seen : List ℕ) → 9 ≤ length seen → current_of seen ≡ Some (frame_of seen)
-current-many seen h = ap (λ b. cond b None (Some (frame_of seen))) (le-ltb (length seen) 9 h)
+current_many : (seen : List ℕ) → 9 ≤ length seen → current_of seen ≡ Some (frame_of seen)
+current_many seen h = ap (λ b. cond b None (Some (frame_of seen))) (le-ltb (length seen) 9 h)
 
 -- the same frame with more of its payload
 frame_of-append : (seen more : List ℕ) → 9 ≤ length seen → frame_of (seen ++ more) ≡ record (frame_of seen) { payload = drop 9 seen ++ more }
@@ -65,161 +69,168 @@ frame_of-append seen more h =
     let one : ℕ → ℕ → Frame = λ size kind. record { size = size; kind = kind; flags = flags_of (seen ++ more); stream = stream_with 0 (seen ++ more); payload = drop 9 (seen ++ more) } in
     let two : ℕ → ℕ → Frame = λ flags no. record { size = length_with 0 seen; kind = kind_of seen; flags = flags; stream = no; payload = drop 9 (seen ++ more) } in
     let all : List ℕ → Frame = λ payload. record (frame_of seen) { payload = payload } in
-    ap₂ one (size-append 0 seen more three) (get_or_append_left seen more 0 3 k) ∙ ap₂ two (get_or_append_left seen more 0 4 f) stream ∙ ap all (drop-append-le 9 seen more h)
+    ap₂ one (size_append 0 seen more three) (get_or_append_left seen more 0 3 k) ∙ ap₂ two (get_or_append_left seen more 0 4 f) stream ∙ ap all (drop-append-le 9 seen more h)
 
 abbrev Next : Position → List ℕ → FrameFed → Told → Type 0
 Next p bytes fed told = Agrees (position_by fed.part p (take fed.taken bytes)) (told_by fed.part (take fed.taken bytes) told)
 
-fine-after : (p : Position) (bytes : List ℕ) (fed : FrameFed) → IsFine p bytes fed → first_fault (p.before ++ (p.seen ++ take fed.taken bytes)) ≡ None
-fine-after p bytes fed k = ap (λ n. first_fault (p.before ++ (p.seen ++ take n bytes))) k.taken ∙ k.fine
+fine_after : (p : Position) (bytes : List ℕ) (fed : FrameFed) → IsFine p bytes fed → first_fault (p.before ++ (p.seen ++ take fed.taken bytes)) ≡ None
+fine_after p bytes fed k = ap (λ n. first_fault (p.before ++ (p.seen ++ take n bytes))) k.taken ∙ k.fine
 
-by-part : (p : Position) (bytes : List ℕ) (fed : FrameFed) (told : Told) (o : Option Part) → fed.part ≡ o → Agrees (position_by o p (take fed.taken bytes)) (told_by o (take fed.taken bytes) told) → Next p bytes fed told
-by-part p bytes fed told o e a = subst (λ (x : Option Part). Agrees (position_by x p (take fed.taken bytes)) (told_by x (take fed.taken bytes) told)) (sym e) a
+by_part : (p : Position) (bytes : List ℕ) (fed : FrameFed) (told : Told) (o : Option Part) → fed.part ≡ o → Agrees (position_by o p (take fed.taken bytes)) (told_by o (take fed.taken bytes) told) → Next p bytes fed told
+by_part p bytes fed told o e a = subst (λ (x : Option Part). Agrees (position_by x p (take fed.taken bytes)) (told_by x (take fed.taken bytes) told)) (sym e) a
 
-next-none : (p : Position) (bytes : List ℕ) (fed : FrameFed) (told : Told) → Agrees p told → IsFine p bytes fed → length p.seen < 9 → length p.seen + length bytes < 9 → Next p bytes fed told
-next-none p bytes fed told a k few sum =
+next_none : (p : Position) (bytes : List ℕ) (fed : FrameFed) (told : Told) → Agrees p told → IsFine p bytes fed → length p.seen < 9 → length p.seen + length bytes < 9 → Next p bytes fed told
+next_none p bytes fed told a k few sum =
     let short : length (p.seen ++ take fed.taken bytes) < 9 = omega (arith, length-append p.seen (take fed.taken bytes), length-take fed.taken bytes) in
-    by-part p bytes fed told None (k.part ∙ part-none p.seen bytes few sum)
-    (record { whole = a.whole; frames = a.frames; current = a.current ∙ current-few p.seen few ∙ sym (current-few (p.seen ++ take fed.taken bytes) short); most = λ nine. absurd (omega arith); fine = fine-after p bytes fed k })
+    by_part p bytes fed told None (k.part ∙ part_none p.seen bytes few sum)
+    (record { whole = a.whole; frames = a.frames; current = a.current ∙ current_few p.seen few ∙ sym (current_few (p.seen ++ take fed.taken bytes) short); most = λ nine. absurd (omega arith); fine = fine_after p bytes fed k })
 
-next-begin : (p : Position) (bytes : List ℕ) (fed : FrameFed) (told : Told) → Agrees p told → IsFine p bytes fed → length p.seen < 9 → 9 ≤ length p.seen + length bytes → Next p bytes fed told
-next-begin p bytes fed told a k few sum =
-    let n : fed.taken ≡ 9 - length p.seen = omega (arith, k.taken, taken-few p.seen bytes few) in
+next_begin : (p : Position) (bytes : List ℕ) (fed : FrameFed) (told : Told) → Agrees p told → IsFine p bytes fed → length p.seen < 9 → 9 ≤ length p.seen + length bytes → Next p bytes fed told
+next_begin p bytes fed told a k few sum =
+    let n : fed.taken ≡ 9 - length p.seen = omega (arith, k.taken, taken_few p.seen bytes few) in
     let head : List ℕ = p.seen ++ take fed.taken bytes in
     let len : length (p.seen ++ take fed.taken bytes) ≡ 9 = omega (arith, length-append p.seen (take fed.taken bytes), length-take fed.taken bytes) in
     let nine : 9 ≤ length (p.seen ++ take fed.taken bytes) = omega arith in
     let le : length (p.seen ++ take fed.taken bytes) ≤ 9 = omega arith in
-    let part : fed.part ≡ Some (begin_of (p.seen ++ take fed.taken bytes)) = k.part ∙ part-begin p.seen bytes few sum ∙ ap (λ m. Some (begin_of (p.seen ++ take m bytes))) (sym n) in
+    let part : fed.part ≡ Some (begin_of (p.seen ++ take fed.taken bytes)) = k.part ∙ part_begin p.seen bytes few sum ∙ ap (λ m. Some (begin_of (p.seen ++ take m bytes))) (sym n) in
     let empty : [] ≡ drop 9 (p.seen ++ take fed.taken bytes) = sym (drop_of_length-le (p.seen ++ take fed.taken bytes) {i = 9} le) in
     let made : List ℕ → Option Frame = λ payload. Some (record (frame_of (p.seen ++ take fed.taken bytes)) { payload = payload }) in
-    by-part p bytes fed told (Some (begin_of (p.seen ++ take fed.taken bytes))) part
-    (record { whole = a.whole; frames = a.frames; current = ap made empty ∙ sym (current-many (p.seen ++ take fed.taken bytes) nine); most = λ _. omega arith; fine = fine-after p bytes fed k })
+    by_part p bytes fed told (Some (begin_of (p.seen ++ take fed.taken bytes))) part
+    (record { whole = a.whole; frames = a.frames; current = ap made empty ∙ sym (current_many (p.seen ++ take fed.taken bytes) nine); most = λ _. omega arith; fine = fine_after p bytes fed k })
 
-next-idle : (p : Position) (bytes : List ℕ) (fed : FrameFed) (told : Told) → Agrees p told → IsFine p bytes fed → 9 ≤ length p.seen → length p.seen < frame_size p.seen → length bytes ≡ 0 → Next p bytes fed told
-next-idle p bytes fed told a k nine part z =
-    let none : fed.taken ≡ 0 = omega (arith, k.taken, taken-many p.seen bytes nine) in
+next_idle : (p : Position) (bytes : List ℕ) (fed : FrameFed) (told : Told) → Agrees p told → IsFine p bytes fed → 9 ≤ length p.seen → length p.seen < frame_size p.seen → length bytes ≡ 0 → Next p bytes fed told
+next_idle p bytes fed told a k nine part z =
+    let none : fed.taken ≡ 0 = omega (arith, k.taken, taken_many p.seen bytes nine) in
     let same : p.seen ≡ p.seen ++ take fed.taken bytes = sym (ap (λ n. p.seen ++ take n bytes) none ∙ append-nil p.seen) in
-    by-part p bytes fed told None (k.part ∙ part-idle p.seen bytes nine part z) (subst (λ (xs : List ℕ). Agrees (record { before = p.before; seen = xs }) told) same a)
+    by_part p bytes fed told None (k.part ∙ part_idle p.seen bytes nine part z) (subst (λ (xs : List ℕ). Agrees (record { before = p.before; seen = xs }) told) same a)
 
-next-piece : (p : Position) (bytes : List ℕ) (fed : FrameFed) (told : Told) → Agrees p told → IsFine p bytes fed → 9 ≤ length p.seen → length p.seen < frame_size p.seen → 0 < length bytes → Next p bytes fed told
-next-piece p bytes fed told a k nine part some =
-    let n : fed.taken ≡ min (frame_size p.seen - length p.seen) (length bytes) = k.taken ∙ taken-many p.seen bytes nine in
+next_piece : (p : Position) (bytes : List ℕ) (fed : FrameFed) (told : Told) → Agrees p told → IsFine p bytes fed → 9 ≤ length p.seen → length p.seen < frame_size p.seen → 0 < length bytes → Next p bytes fed told
+next_piece p bytes fed told a k nine part some =
+    let n : fed.taken ≡ min (frame_size p.seen - length p.seen) (length bytes) = k.taken ∙ taken_many p.seen bytes nine in
     let more : List ℕ = take fed.taken bytes in
     let len : length (take fed.taken bytes) ≡ fed.taken = omega (arith, length-take fed.taken bytes) in
     let zero_is : length (take fed.taken bytes) - fed.taken ≡ 0 = omega arith in
     let last : drop (length (take fed.taken bytes) - fed.taken) (take fed.taken bytes) ≡ take fed.taken bytes = ap (λ j. drop j (take fed.taken bytes)) zero_is in
     let long : 9 ≤ length (p.seen ++ take fed.taken bytes) = omega (arith, length-append p.seen (take fed.taken bytes)) in
-    let piece : fed.part ≡ Some (Piece fed.taken) = k.part ∙ part-piece p.seen bytes nine part some ∙ ap (λ j. Some (Piece j)) (sym k.taken) in
+    let piece : fed.part ≡ Some (Piece fed.taken) = k.part ∙ part_piece p.seen bytes nine part some ∙ ap (λ j. Some (Piece j)) (sym k.taken) in
     let adds : Option Frame → Option Frame = λ o. (told_by (Some (Piece fed.taken)) (take fed.taken bytes) (record { frames = told.frames; current = o })).current in
     let made : List ℕ → Option Frame = λ xs. Some (record (frame_of p.seen) { payload = drop 9 p.seen ++ xs }) in
-    let now = ap adds (a.current ∙ current-many p.seen nine) ∙ ap made last ∙ ap Some (sym (frame_of-append p.seen (take fed.taken bytes) nine)) ∙ sym (current-many (p.seen ++ take fed.taken bytes) long) in
+    let now = ap adds (a.current ∙ current_many p.seen nine) ∙ ap made last ∙ ap Some (sym (frame_of-append p.seen (take fed.taken bytes) nine)) ∙ sym (current_many (p.seen ++ take fed.taken bytes) long) in
     let most : length (p.seen ++ take fed.taken bytes) ≤ frame_size (p.seen ++ take fed.taken bytes) = omega (arith, length-append p.seen (take fed.taken bytes), frame_size-append p.seen (take fed.taken bytes) nine) in
-    by-part p bytes fed told (Some (Piece fed.taken)) piece
-    (record { whole = a.whole; frames = a.frames; current = now; most = λ _. most; fine = fine-after p bytes fed k })
+    by_part p bytes fed told (Some (Piece fed.taken)) piece
+    (record { whole = a.whole; frames = a.frames; current = now; most = λ _. most; fine = fine_after p bytes fed k })
 
-next-done : (p : Position) (bytes : List ℕ) (fed : FrameFed) (told : Told) → Agrees p told → IsFine p bytes fed → 9 ≤ length p.seen → frame_size p.seen ≤ length p.seen → Next p bytes fed told
-next-done p bytes fed told a k nine all =
+next_done : (p : Position) (bytes : List ℕ) (fed : FrameFed) (told : Told) → Agrees p told → IsFine p bytes fed → 9 ≤ length p.seen → frame_size p.seen ≤ length p.seen → Next p bytes fed told
+next_done p bytes fed told a k nine all =
     let most : length p.seen ≤ frame_size p.seen = a.most nine in
     let whole : length p.seen ≡ frame_size p.seen = omega arith in
-    let w : front (cut p.before).context p.seen ≡ Whole p.seen [] = whole-frame (cut p.before).context p.seen nine whole (fine-judged p.before p.seen a.whole a.fine) in
-    let f : told.frames ++ option_to_list told.current ≡ frames_of (p.before ++ p.seen) = ap₂ (λ xs o. xs ++ option_to_list o) a.frames (a.current ∙ current-many p.seen nine) ∙ sym (frames_of-whole p.before p.seen a.whole w) in
-    by-part p bytes fed told (Some Done) (k.part ∙ part-done p.seen bytes nine all)
-    (record { whole = frames-whole p.before p.seen a.whole w; frames = f; current = refl; most = λ nine. absurd (omega arith); fine = ap first_fault (append-nil (p.before ++ p.seen)) ∙ a.fine })
+    let w : front (cut p.before).context p.seen ≡ Whole p.seen [] = whole_frame (cut p.before).context p.seen nine whole (fine_judged p.before p.seen a.whole a.fine) in
+    let f : told.frames ++ option_to_list told.current ≡ frames_of (p.before ++ p.seen) = ap₂ (λ xs o. xs ++ option_to_list o) a.frames (a.current ∙ current_many p.seen nine) ∙ sym (frames_of_whole p.before p.seen a.whole w) in
+    by_part p bytes fed told (Some Done) (k.part ∙ part_done p.seen bytes nine all)
+    (record { whole = frames_whole p.before p.seen a.whole w; frames = f; current = refl; most = λ nine. absurd (omega arith); fine = ap first_fault (append-nil (p.before ++ p.seen)) ∙ a.fine })
 
 -- one call more
 next : (p : Position) (bytes : List ℕ) (fed : FrameFed) (told : Told) → Agrees p told → answer_of p bytes ≡ Ok fed → Next p bytes fed told
 next p bytes fed told a e =
-    let k : IsFine p bytes fed = ok-fine p bytes fed e in
+    let k : IsFine p bytes fed = ok_fine p bytes fed e in
     either (length p.seen) 9
-    (λ few. either (length p.seen + length bytes) 9 (next-none p bytes fed told a k few) (next-begin p bytes fed told a k few))
+    (λ few. either (length p.seen + length bytes) 9 (next_none p bytes fed told a k few) (next_begin p bytes fed told a k few))
     (λ nine. either (length p.seen) (frame_size p.seen)
-    (λ part. either 0 (length bytes) (next-piece p bytes fed told a k nine part) (λ z. next-idle p bytes fed told a k nine part (omega arith)))
-    (next-done p bytes fed told a k nine))
-
--- and all of them
-agrees-all : (p : Position) (told : Told) (calls : List FeedCall) → Agrees p told → IsRun p calls → Agrees (position_after_all p calls) (told_by_all told calls)
-agrees-all p told [] a r = a
-agrees-all p told (call ∷ calls) a r = agrees-all (position_by call.fed.part p (taken_in call)) (told_by call.fed.part (taken_in call) told) calls (next p call.bytes call.fed told a r.0) r.1
+    (λ part. either 0 (length bytes) (next_piece p bytes fed told a k nine part) (λ z. next_idle p bytes fed told a k nine part (omega arith)))
+    (next_done p bytes fed told a k nine))
 
 -- each call's bytes are added
 pub record AddsBytes (p next : Position) (bytes : List ℕ) : Type 0 where
   pub is : bytes_read next ≡ bytes_read p ++ bytes
 
-adds-by : (o : Option Part) (p : Position) (bytes : List ℕ) → (o ≡ Some Done → bytes ≡ []) → AddsBytes p (position_by o p bytes) bytes
-adds-by None p bytes h = record { is = sym (append_assoc p.before p.seen bytes) }
-adds-by (Some (Begin size kind flags stream)) p bytes h = record { is = sym (append_assoc p.before p.seen bytes) }
-adds-by (Some (Piece n)) p bytes h = record { is = sym (append_assoc p.before p.seen bytes) }
-adds-by (Some Done) p bytes h = record { is = ap (λ xs. (p.before ++ p.seen) ++ xs) (sym (h refl)) }
+adds_by : (o : Option Part) (p : Position) (bytes : List ℕ) → (o ≡ Some Done → bytes ≡ []) → AddsBytes p (position_by o p bytes) bytes
+adds_by None p bytes h = record { is = sym (append_assoc p.before p.seen bytes) }
+adds_by (Some (Begin size kind flags stream)) p bytes h = record { is = sym (append_assoc p.before p.seen bytes) }
+adds_by (Some (Piece n)) p bytes h = record { is = sym (append_assoc p.before p.seen bytes) }
+adds_by (Some Done) p bytes h = record { is = ap (λ xs. (p.before ++ p.seen) ++ xs) (sym (h refl)) }
 
-nothing-of : (taken : ℕ) (o : Option Part) (bytes : List ℕ) → IsPart taken o → o ≡ Some Done → take taken bytes ≡ []
-nothing-of taken None bytes h e = absurd (cc)
-nothing-of taken (Some (Begin size kind flags stream)) bytes h e = let same : Begin size kind flags stream ≡ Done = cc in absurd (cc)
-nothing-of taken (Some (Piece n)) bytes h e = let same : Piece n ≡ Done = cc in absurd (cc)
-nothing-of taken (Some Done) bytes h e = ap (λ n. take n bytes) h
+nothing_of : (taken : ℕ) (o : Option Part) (bytes : List ℕ) → IsPart taken o → o ≡ Some Done → take taken bytes ≡ []
+nothing_of taken None bytes h e = absurd (cc)
+nothing_of taken (Some (Begin size kind flags stream)) bytes h e = let same : Begin size kind flags stream ≡ Done = cc in absurd (cc)
+nothing_of taken (Some (Piece n)) bytes h e = let same : Piece n ≡ Done = cc in absurd (cc)
+nothing_of taken (Some Done) bytes h e = ap (λ n. take n bytes) h
 
 -- an answer adds the bytes that are taken
-pub position_after-reads : (p : Position) (bytes : List ℕ) (fed : FrameFed) → IsPart fed.taken fed.part → bytes_read (position_by fed.part p (take fed.taken bytes)) ≡ bytes_read p ++ take fed.taken bytes
-position_after-reads p bytes fed h = let a = adds-by fed.part p (take fed.taken bytes) (nothing-of fed.taken fed.part bytes h) in a.is
+pub position_after_reads : (p : Position) (bytes : List ℕ) (fed : FrameFed) → IsPart fed.taken fed.part → bytes_read (position_by fed.part p (take fed.taken bytes)) ≡ bytes_read p ++ take fed.taken bytes
+position_after_reads p bytes fed h = let a = adds_by fed.part p (take fed.taken bytes) (nothing_of fed.taken fed.part bytes h) in a.is
 
-done-by : (seen bytes : List ℕ) → part_of seen bytes ≡ Some Done → (9 ≤ length seen → length seen ≤ frame_size seen) → taken_of seen bytes ≡ 0
-done-by seen bytes h most = either (length seen) 9
+done_by : (seen bytes : List ℕ) → part_of seen bytes ≡ Some Done → (9 ≤ length seen → length seen ≤ frame_size seen) → taken_of seen bytes ≡ 0
+done_by seen bytes h most = either (length seen) 9
     (λ few. either (length seen + length bytes) 9
-    (λ sum. let e = part-none seen bytes few sum in absurd (cc))
-    (λ sum. let e = part-begin seen bytes few sum in absurd (cc)))
+    (λ sum. let e = part_none seen bytes few sum in absurd (cc))
+    (λ sum. let e = part_begin seen bytes few sum in absurd (cc)))
     (λ nine. either (length seen) (frame_size seen)
     (λ part. either 0 (length bytes)
-    (λ some. let e = part-piece seen bytes nine part some in absurd (cc))
-    (λ z. omega (arith, taken-many seen bytes nine)))
-    (λ all. omega (arith, taken-many seen bytes nine)))
+    (λ some. let e = part_piece seen bytes nine part some in absurd (cc))
+    (λ z. omega (arith, taken_many seen bytes nine)))
+    (λ all. omega (arith, taken_many seen bytes nine)))
 
 adds : (p : Position) (bytes : List ℕ) (fed : FrameFed) (told : Told) → Agrees p told → answer_of p bytes ≡ Ok fed → AddsBytes p (position_by fed.part p (take fed.taken bytes)) (take fed.taken bytes)
 adds p bytes fed told a e =
-    let k : IsFine p bytes fed = ok-fine p bytes fed e in
-    adds-by fed.part p (take fed.taken bytes) (λ d. ap (λ n. take n bytes) (k.taken ∙ done-by p.seen bytes (sym k.part ∙ d) a.most))
+    let k : IsFine p bytes fed = ok_fine p bytes fed e in
+    adds_by fed.part p (take fed.taken bytes) (λ d. ap (λ n. take n bytes) (k.taken ∙ done_by p.seen bytes (sym k.part ∙ d) a.most))
 
-adds-all : (p : Position) (told : Told) (calls : List FeedCall) → Agrees p told → IsRun p calls → bytes_read (position_after_all p calls) ≡ bytes_read p ++ taken_in_all calls
-adds-all p told [] a r = sym (append-nil (bytes_read p))
-adds-all p told (call ∷ calls) a r =
-    let s = adds p call.bytes call.fed told a r.0 in
-    adds-all (position_by call.fed.part p (taken_in call)) (told_by call.fed.part (taken_in call) told) calls (next p call.bytes call.fed told a r.0) r.1
-    ∙ ap (λ xs. xs ++ taken_in_all calls) s.is ∙ append_assoc (bytes_read p) (taken_in call) (taken_in_all calls)
+-- the bytes were read, and the caller was told what they are
+record Reads (p : Position) (bytes : List ℕ) (told : Told) : Type 0 where
+  pub agrees : Agrees p told
+  pub read : bytes_read p ≡ bytes
 
-nothing-agrees : Agrees no_bytes nothing_told
-nothing-agrees = record { whole = no-frames; frames = no-frames-told; current = refl; most = λ nine. absurd (omega arith); fine = nothing-fine }
+-- one call more
+adds_next : AddsTaken frame_reading Reads
+adds_next = λ old new before bytes told fed s step. subst (λ (q : Position). Reads q (before ++ take fed.taken bytes) (told_by fed.part (take fed.taken bytes) told)) (sym step.next)
+    (record {
+      agrees = next old bytes fed told s.agrees step.answer;
+      read = let a = adds old bytes fed told s.agrees step.answer in a.is ∙ ap (λ (xs : List ℕ). xs ++ take fed.taken bytes) s.read;
+    })
+
+nothing_agrees : Agrees no_bytes nothing_told
+nothing_agrees = record { whole = no_frames; frames = no_frames_told; current = refl; most = λ nine. absurd (omega arith); fine = nothing_is_fine }
 
 -- where no Done is due, what is seen is less than a frame
-not-due : (seen : List ℕ) → part_of seen [] ≢ Some Done → 9 ≤ length seen → length seen < frame_size seen
-not-due seen h nine = either (length seen) (frame_size seen) (λ part. part) (λ all. absurd (h (part-done seen [] nine all)))
+not_due : (seen : List ℕ) → part_of seen [] ≢ Some Done → 9 ≤ length seen → length seen < frame_size seen
+not_due seen h nine = either (length seen) (frame_size seen) (λ part. part) (λ all. absurd (h (part_done seen [] nine all)))
 
-part-frames : (before seen : List ℕ) → cut (before ++ seen) ≡ behind (cut before).frames (record { frames = []; rest = seen; context = (cut before).context; fault = None }) → frames_of before ≡ frames_of (before ++ seen)
-part-frames before seen e = sym (ap (λ c. map frame_of c.frames) e ∙ ap (map frame_of) (append-nil (cut before).frames))
+part_frames : (before seen : List ℕ) → cut (before ++ seen) ≡ behind (cut before).frames (record { frames = []; rest = seen; context = (cut before).context; fault = None }) → frames_of before ≡ frames_of (before ++ seen)
+part_frames before seen e = sym (ap (λ c. map frame_of c.frames) e ∙ ap (map frame_of) (append-nil (cut before).frames))
 
-pub run-tells : (calls : List FeedCall) → IsRun no_bytes calls → TellsFrames calls
-run-tells calls r =
-    let p : Position = position_after_all no_bytes calls in
-    let told : Told = told_by_all nothing_told calls in
-    let a : Agrees (position_after_all no_bytes calls) (told_by_all nothing_told calls) = agrees-all no_bytes nothing_told calls nothing-agrees r in
-    let read : bytes_read (position_after_all no_bytes calls) ≡ taken_in_all calls = adds-all no_bytes nothing_told calls nothing-agrees r in
-    let rest = λ (h : part_of (position_after_all no_bytes calls).seen [] ≢ Some Done). cut-part (position_after_all no_bytes calls).before (position_after_all no_bytes calls).seen a.whole (fine-judged (position_after_all no_bytes calls).before (position_after_all no_bytes calls).seen a.whole a.fine) (not-due (position_after_all no_bytes calls).seen h) in
+nothing_read : Reads no_bytes [] nothing_told
+nothing_read = record { agrees = nothing_agrees; read = refl }
+
+run_reads : (calls : List (FeedCall FrameFed)) (last : Position) → IsRun frame_reading no_bytes calls last → Reads last (taken_in_all taken_by calls) (told_of calls)
+run_reads calls last run = run_stands frame_reading Reads adds_next no_bytes last [] nothing_told calls nothing_read run
+
+-- a run of calls tells the frames of the bytes that it took
+pub run_tells : (calls : List (FeedCall FrameFed)) (last : Position) → IsRun frame_reading no_bytes calls last → TellsFrames calls last
+run_tells calls last run =
+    let reads = run_reads calls last run in
+    let a : Agrees last (told_of calls) = reads.agrees in
+    let read : bytes_read last ≡ taken_in_all taken_by calls = reads.read in
+    let rest = λ (h : part_of last.seen [] ≢ Some Done). cut_part last.before last.seen a.whole (fine_judged last.before last.seen a.whole a.fine) (not_due last.seen h) in
     record {
       read = read;
       fine = ap first_fault (sym read) ∙ a.fine;
       frames = a.frames;
       current = a.current;
-      all_frames = λ h. a.frames ∙ part-frames (position_after_all no_bytes calls).before (position_after_all no_bytes calls).seen (rest h) ∙ ap frames_of read;
+      all_frames = λ h. a.frames ∙ part_frames last.before last.seen (rest h) ∙ ap frames_of read;
       all_current = λ h. a.current ∙ ap current_of (sym (ap (λ c. c.rest) (rest h))) ∙ ap (λ xs. current_of (rest_of xs)) read;
     }
 
-refused-at : (p : Position) (taken bytes more : List ℕ) (f : H2Fault) (n : ℕ) → bytes_read p ≡ taken → first_fault (p.before ++ (p.seen ++ take n bytes)) ≡ Some f → AreBytes taken → AreBytes bytes → AreBytes more → first_fault (taken ++ (bytes ++ more)) ≡ Some f
-refused-at p taken bytes more f n read h k b m =
+refused_at : (p : Position) (taken bytes more : List ℕ) (f : H2Fault) (n : ℕ) → bytes_read p ≡ taken → first_fault (p.before ++ (p.seen ++ take n bytes)) ≡ Some f → AreBytes taken → AreBytes bytes → AreBytes more → first_fault (taken ++ (bytes ++ more)) ≡ Some f
+refused_at p taken bytes more f n read h k b m =
     let so_far : p.before ++ (p.seen ++ take n bytes) ≡ taken ++ take n bytes = sym (append_assoc p.before p.seen (take n bytes)) ∙ ap (λ xs. xs ++ take n bytes) read in
     let whole : (taken ++ take n bytes) ++ (drop n bytes ++ more) ≡ taken ++ (bytes ++ more) = append_assoc taken (take n bytes) (drop n bytes ++ more) ∙ ap (λ xs. taken ++ xs) (sym (append_assoc (take n bytes) (drop n bytes) more)) ∙ ap (λ xs. taken ++ (xs ++ more)) (take-append-drop n bytes) in
-    ap first_fault (sym whole) ∙ first_fault-append (taken ++ take n bytes) (drop n bytes ++ more) f (bytes-append taken (take n bytes) k (bytes-take n bytes b)) (bytes-append (drop n bytes) more (bytes-drop n bytes b) m) (ap first_fault (sym so_far) ∙ h)
+    ap first_fault (sym whole) ∙ first_fault-append (taken ++ take n bytes) (drop n bytes ++ more) f (AreBytes-append taken (take n bytes) k (AreBytes-take n bytes b)) (AreBytes-append (drop n bytes) more (AreBytes-drop n bytes b) m) (ap first_fault (sym so_far) ∙ h)
 
-pub run-refused : (calls : List FeedCall) (bytes more : List ℕ) (f : H2Fault) → IsRun no_bytes calls → answer_of (position_after_all no_bytes calls) bytes ≡ Err f → AreBytes (taken_in_all calls) → AreBytes bytes → AreBytes more → first_fault (taken_in_all calls ++ (bytes ++ more)) ≡ Some f
-run-refused calls bytes more f r e k b m =
-    let p : Position = position_after_all no_bytes calls in
-    let n : ℕ = taken_of (position_after_all no_bytes calls).seen bytes in
-    let h : first_fault (bytes_after (position_after_all no_bytes calls) bytes) ≡ Some f = err-by (first_fault (bytes_after (position_after_all no_bytes calls) bytes)) (fed_of (position_after_all no_bytes calls).seen bytes) f e in
-    let read : bytes_read (position_after_all no_bytes calls) ≡ taken_in_all calls = adds-all no_bytes nothing_told calls nothing-agrees r in
-    refused-at (position_after_all no_bytes calls) (taken_in_all calls) bytes more f (taken_of (position_after_all no_bytes calls).seen bytes) read h k b m
+-- a refusal behind a run is the first fault of the whole list
+pub run_refused : (calls : List (FeedCall FrameFed)) (last : Position) (bytes more : List ℕ) (f : H2Fault) → IsRun frame_reading no_bytes calls last → answer_of last bytes ≡ Err f
+    → AreBytes (taken_in_all taken_by calls) → AreBytes bytes → AreBytes more → first_fault (taken_in_all taken_by calls ++ (bytes ++ more)) ≡ Some f
+run_refused calls last bytes more f run e k b m =
+    let h : first_fault (bytes_after last bytes) ≡ Some f = err_by (first_fault (bytes_after last bytes)) (fed_of last.seen bytes) f e in
+    let reads = run_reads calls last run in
+    refused_at last (taken_in_all taken_by calls) bytes more f (taken_of last.seen bytes) reads.read h k b m

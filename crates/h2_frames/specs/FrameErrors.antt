@@ -2,7 +2,7 @@
 -- that have come (RFC 9113, sections 3.4, 4.2, 4.3 and 6). A rule is decided by the first byte
 -- with which all frames that begin so keep it, or none does.
 use Rattle.std.specs.Prelude.{◌==◌, ◌+◌, ◌-◌, ◌%◌, ◌&&◌, ◌||◌, ℕ, Bool, List, length, if◌then◌else◌, nat_lt, nat_le, slice_index_or, Option, Some, None}
-use Rattle.h2_frames.specs.declared.codes.TheConstants.{MAX_FRAME_SIZE, DATA, HEADERS, PRIORITY, RST_STREAM, SETTINGS, PUSH_PROMISE, PING, GOAWAY, WINDOW_UPDATE, CONTINUATION, ACK, PADDED, PRIORITY_FLAG, PROTOCOL_ERROR, FRAME_SIZE_ERROR}
+use Rattle.h2_frames.specs.Http2Codes.{MAX_FRAME_SIZE, DATA, HEADERS, PRIORITY, RST_STREAM, SETTINGS, PUSH_PROMISE, PING, GOAWAY, WINDOW_UPDATE, CONTINUATION, ACK, PADDED, PRIORITY_FLAG, PROTOCOL_ERROR, FRAME_SIZE_ERROR}
 use Rattle.h2_frames.specs.FrameHead.{length_with, stream_with, kind_of, flags_of, has_flag}
 
 -- where a frame stands: whether it is the first, and the stream of the field block that is open

@@ -1,12 +1,14 @@
 -- The bytes for which a reader stands, and its answers to more of them.
 use Rattle.std.specs.Prelude.{◌≡◌, ◌≤◌, ◌<◌, ◌==◌, ◌+◌, ◌-◌, ◌*◌, ◌++◌, ℕ, List, [], length, take, min, if◌then◌else◌, nat_lt, nat_le, Option, Some, None, Result, Ok, Err}
+use Rattle.base.specs.Bytes.{AreBytes}
+use Rattle.base.specs.Saturated.{saturated}
 use Rattle.h2_frames.specs.declared.fault.H2Fault.{H2Fault}
 use Rattle.h2_frames.specs.declared.parts.FrameFed.{FrameFed}
 use Rattle.h2_frames.specs.declared.parts.Part.{Part}
 use Rattle.h2_frames.specs.declared.parts.Part.TheVariants.{Begin, Piece, Done}
 use Rattle.h2_frames.specs.FrameHead.{length_with, stream_with, kind_of, flags_of, frame_size}
 use Rattle.h2_frames.specs.FrameErrors.{Context, judge, Judgement, Open, Fine, Fault}
-use Rattle.h2_frames.specs.Http2Frame.{AreBytes, AreFrames, Broken, front, cut, place_of, first_fault}
+use Rattle.h2_frames.specs.Http2Frame.{AreFrames, Broken, front, cut, first_fault}
 
 -- how far a list of bytes was read: the frames that were told to their end, and the bytes behind them
 pub record Position : Type 0 where
@@ -84,7 +86,7 @@ IsNoFault (Fault code) = ⊥
 pub record StandsAt (kept : Kept) (before seen : List ℕ) : Type 0 where
   pub frames : AreFrames before
   pub context : (cut before).context ≡ kept.context
-  pub place : kept.place ≡ place_of (length before)
+  pub place : kept.place ≡ saturated (length before)
   pub head : kept.head ≡ take 10 seen
   pub left : 9 ≤ length seen → kept.left + length seen ≡ frame_size seen
   pub fine : IsNoFault (judge kept.context kept.head)
@@ -94,7 +96,7 @@ pub record StandsAt (kept : Kept) (before seen : List ℕ) : Type 0 where
 pub record StandsBroken (f : H2Fault) (before seen : List ℕ) : Type 0 where
   pub frames : AreFrames before
   pub broken : front (cut before).context seen ≡ Broken f.code
-  pub place : f.place ≡ place_of (length before)
+  pub place : f.place ≡ saturated (length before)
   pub bytes : AreBytes seen
 
 -- the one or the other

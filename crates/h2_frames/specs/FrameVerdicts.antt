@@ -1,7 +1,7 @@
 -- A rule is decided by the first byte with which it must be: no earlier and no later.
 use Rattle.std.specs.Prelude.{◌≡◌, ◌++◌, ℕ, List}
+use Rattle.base.specs.Bytes.{AreBytes}
 use Rattle.h2_frames.specs.FrameErrors.{Verdict, Undecided, Keeps, Breaks}
-use Rattle.h2_frames.specs.Http2Frame.{AreBytes}
 
 -- bytes that may go on so that the rule is kept, and so that it is broken
 pub record MayGoEitherWay (rule : List ℕ → Verdict) (bytes : List ℕ) : Type 0 where

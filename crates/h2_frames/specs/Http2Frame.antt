@@ -1,14 +1,11 @@
 -- A list of bytes cut into frames, up to the first that breaks a rule (RFC 9113, sections 4.1
 -- and 5.4.1). Nothing here speaks of a reader or of pieces.
-use Rattle.std.specs.Prelude.{◌≡◌, ◌<◌, ◌==◌, ◌-◌, ◌^◌, ◌||◌, ◌++◌, ℕ, suc, zero, true, false, List, [], ◌∷◌, length, take, drop, map, if◌then◌else◌, nat_lt, Option, Some, None, min, slice_index_or}
-use Rattle.h2_frames.specs.declared.codes.TheConstants.{HEADERS, CONTINUATION, END_HEADERS}
+use Rattle.std.specs.Prelude.{◌≡◌, ◌==◌, ◌-◌, ◌||◌, ◌++◌, ℕ, suc, zero, true, false, List, [], ◌∷◌, length, take, drop, map, if◌then◌else◌, nat_lt, Option, Some, None, min}
+use Rattle.base.specs.Saturated.{saturated}
+use Rattle.h2_frames.specs.Http2Codes.{HEADERS, CONTINUATION, END_HEADERS}
 use Rattle.h2_frames.specs.declared.fault.H2Fault.{H2Fault}
 use Rattle.h2_frames.specs.FrameHead.{stream_with, kind_of, flags_of, has_flag, frame_size, Frame, frame_of}
 use Rattle.h2_frames.specs.FrameErrors.{Context, judge, Judgement, Open, Fine, Fault}
-
--- each element is a byte
-abbrev pub AreBytes : List ℕ → Type 0
-AreBytes bytes = (i : ℕ) → slice_index_or bytes i 0 < 256
 
 -- what stands at the front of bytes: less than a frame, one that breaks a rule, or a whole one
 pub data Front : Type 0 where
@@ -84,14 +81,10 @@ frames_of bytes = map frame_of (cut bytes).frames
 abbrev pub rest_of : List ℕ → List ℕ
 rest_of bytes = (cut bytes).rest
 
--- an offset stands still at the last value of u64
-abbrev pub place_of : ℕ → ℕ
-place_of n = min n (2 ^ 64 - 1)
-
 -- a broken rule with the offset of its frame
 abbrev pub fault_at : ℕ → Option ℕ → Option H2Fault
 fault_at place None = None
-fault_at place (Some code) = Some (record { place = place_of place; code = code })
+fault_at place (Some code) = Some (record { place = saturated place; code = code })
 
 -- the first rule that is broken in a list of bytes: the offset of its frame, and its code
 abbrev pub first_fault : List ℕ → Option H2Fault

@@ -1,4 +1,5 @@
 -- What contracts of this crate cite.
+pub mod Http2Codes
 pub mod FrameHead
 pub mod FrameErrors
 pub mod Http2Frame

@@ -1,15 +1,14 @@
-//! All rules in order, and what a frame leaves to the next (RFC 9113, sections 4.3 and 5.4.1).
+//! All rules in order (RFC 9113, section 5.4.1).
 
 ghost use Rattle.std.specs.Prelude.{◌≡◌};
 ghost use Rattle.h2_frames.specs.FrameErrors.{judge as judgement};
-ghost use Rattle.h2_frames.specs.Http2Frame.{after as next};
 ghost use Rattle.h2_frames.specs.FrameWords.{judgement_of, context_of};
 
-use crate::codes::{CONTINUATION, END_HEADERS, FRAME_SIZE_ERROR, HEADERS, PROTOCOL_ERROR};
-use crate::frame_head::{flags, has_flag, kind, stream_with};
+use crate::codes::{FRAME_SIZE_ERROR, PROTOCOL_ERROR};
+use crate::context::Context;
 use crate::length_rules::{has_padding_within, has_size_of_kind, is_within_limit};
 use crate::stream_rules::{begins_with_settings, continues_block, is_no_push, is_on_its_stream};
-use crate::verdict::{Context, Judgement, first_broken};
+use crate::verdict::{Judgement, first_broken};
 
 /// The first rule that the bytes of a frame break.
 pub(crate) fn judge(at: Context, bytes: &[u8]) -> Judgement
@@ -19,26 +18,7 @@ pub(crate) fn judge(at: Context, bytes: &[u8]) -> Judgement
     let last = first_broken(has_size_of_kind(bytes), FRAME_SIZE_ERROR, last);
     let last = first_broken(is_no_push(bytes), PROTOCOL_ERROR, last);
     let last = first_broken(is_on_its_stream(bytes), PROTOCOL_ERROR, last);
-    let last = first_broken(continues_block(at.block, bytes), PROTOCOL_ERROR, last);
+    let last = first_broken(continues_block(at.block(), bytes), PROTOCOL_ERROR, last);
     let last = first_broken(is_within_limit(bytes), FRAME_SIZE_ERROR, last);
     first_broken(begins_with_settings(at, bytes), PROTOCOL_ERROR, last)
-}
-
-/// Where the frame behind a frame stands.
-pub(crate) fn after(at: Context, head: &[u8]) -> Context
-    ensures { context_of result ≡ next (context_of at) head.now }
-{
-    let block = if kind(head) == HEADERS || kind(head) == CONTINUATION {
-        if has_flag(END_HEADERS, flags(head)) {
-            None
-        } else {
-            Some(stream_with(0, head))
-        }
-    } else {
-        at.block
-    };
-    Context {
-        first: false,
-        block,
-    }
 }

@@ -1,14 +1,16 @@
 //! Laws of frames, for callers and for whoever checks the definitions (RFC 9113, section 4.1).
 
 ghost use Rattle.std.specs.Prelude.{◌≡◌, ◌≢◌, ◌<◌, ◌≤◌, ◌^◌, ◌++◌, ℕ, List, [], ◌∷◌, length, take, Option, Some, None, IfSome, Ok, Err};
+ghost use Rattle.base.specs.Bytes.{AreBytes};
+ghost use Rattle.base.specs.PiecewiseReading.{FeedCall, IsRun, taken_in_all};
 ghost use Rattle.h2_frames.specs.declared.fault.H2Fault.{H2Fault};
 ghost use Rattle.h2_frames.specs.FrameHead.{Frame, frame_size, frame_bytes};
 ghost use Rattle.h2_frames.specs.FrameErrors.{Context, judge, Open, begins_with_settings, is_within_limit, continues_block, is_on_its_stream, is_no_push, has_size_of_kind, has_padding_within};
 ghost use Rattle.h2_frames.specs.FrameVerdicts.{IsDecidedAtOnce};
-ghost use Rattle.h2_frames.specs.Http2Frame.{AreBytes, AreFrames, judged, frames_of, first_fault};
+ghost use Rattle.h2_frames.specs.Http2Frame.{AreFrames, judged, frames_of, first_fault};
 ghost use Rattle.h2_frames.specs.FrameReader.{Position, no_bytes, bytes_read, position_after, answer_of, IsPart};
 ghost use Rattle.h2_frames.specs.declared.parts.FrameFed.{FrameFed};
-ghost use Rattle.h2_frames.specs.FrameRuns.{FeedCall, IsRun, TellsFrames, taken_in_all, position_after_all};
+ghost use Rattle.h2_frames.specs.FrameRuns.{frame_reading, taken_by, TellsFrames};
 
 /// A frame that is whole leaves no rule undecided.
 pub fn rules_are_decided()
@@ -54,11 +56,12 @@ pub fn frames_are_read_back()
 /// However a list of bytes is given to a reader, the parts of its answers are the frames of the
 /// whole list, up to the first fault of that list. Each call adds the bytes that it takes.
 pub fn parts_are_frames()
-    ensures parts { (calls : List FeedCall) → IsRun no_bytes calls → TellsFrames calls }
+    ensures parts { (calls : List (FeedCall FrameFed)) (last : Position)
+        → IsRun frame_reading no_bytes calls last → TellsFrames calls last }
     ensures read { (p : Position) (bytes : List ℕ) (fed : FrameFed) → IsPart fed.taken fed.part
         → bytes_read (position_after (Ok fed) p bytes) ≡ bytes_read p ++ take fed.taken bytes }
-    ensures refused { (calls : List FeedCall) (bytes more : List ℕ) (f : H2Fault)
-        → IsRun no_bytes calls → answer_of (position_after_all no_bytes calls) bytes ≡ Err f
-        → AreBytes (taken_in_all calls) → AreBytes bytes → AreBytes more
-        → first_fault (taken_in_all calls ++ (bytes ++ more)) ≡ Some f }
+    ensures refused { (calls : List (FeedCall FrameFed)) (last : Position) (bytes more : List ℕ)
+        (f : H2Fault) → IsRun frame_reading no_bytes calls last → answer_of last bytes ≡ Err f
+        → AreBytes (taken_in_all taken_by calls) → AreBytes bytes → AreBytes more
+        → first_fault (taken_in_all taken_by calls ++ (bytes ++ more)) ≡ Some f }
 {}

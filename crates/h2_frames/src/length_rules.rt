@@ -64,6 +64,7 @@ fn fits_fields(kind: u8, size: u32, bytes: &[u8]) -> Verdict
     keeps_if(fields_size(kind, flags(bytes)) <= size)
 }
 
+/// The size that each type asks for.
 fn fits_kind(kind: u8, size: u32, bytes: &[u8]) -> Verdict
     ensures { verdict_of result ≡ kind_fits kind size bytes.now }
 {
@@ -107,6 +108,7 @@ fn pads_within(room: u32, bytes: &[u8]) -> Verdict
     keeps_if(u32::from(byte_or(bytes, 9, 0)) <= room)
 }
 
+/// The padding of DATA and HEADERS is within what follows its length and the priority fields.
 fn pads_fields(kind: u8, size: u32, bytes: &[u8]) -> Verdict
     requires { size < 2 ^ 24 }
     ensures { verdict_of result ≡ fields_pad kind size bytes.now }
@@ -123,6 +125,7 @@ fn pads_fields(kind: u8, size: u32, bytes: &[u8]) -> Verdict
     pads_within(size.saturating_sub(fields_size(kind, flags(bytes))), bytes)
 }
 
+/// The padding that each type has.
 fn pads_kind(kind: u8, size: u32, bytes: &[u8]) -> Verdict
     requires { size < 2 ^ 24 }
     ensures { verdict_of result ≡ kind_pads kind size bytes.now }

@@ -11,24 +11,20 @@
 #![tactic(auto)]
 
 pub mod codes;
+mod context;
 mod fault;
 mod frame_head;
 mod frame_rules;
-mod laws;
+pub mod laws;
 mod length_rules;
 mod parts;
 mod reader;
+mod stage;
 mod stream_rules;
-#[cfg(test)]
-mod tests;
 mod verdict;
 mod writer;
 
 pub use fault::H2Fault;
-pub use laws::{
-    faults_and_frames_stay, frames_are_read_back, parts_are_frames, rules_are_decided,
-    rules_are_decided_at_once,
-};
 pub use parts::{FrameFed, Part};
 pub use reader::FrameReader;
 pub use writer::put_frame;

@@ -1,18 +1,21 @@
 //! Reads frames from bytes that come in any pieces (RFC 9113, section 4.1).
 
 ghost use Rattle.std.specs.Prelude.{◌≡◌, ◌++◌, ◌+◌, ◌<◌, ◌≤◌, ◌-◌, ◌^◌, ℕ, List, [], ◌∷◌, length, drop, min, take, IfOk, IfErr, IfSome, OnOk, OnErr, IsErr, None, vec_capacity};
-ghost use Rattle.h2_frames.specs.FrameSteps.{IsHeadStep, IsPayloadStep, IsLastStep, IsJudged};
+ghost use Rattle.h2_frames.specs.FrameSteps.{IsHeadStep, IsPayloadStep, IsMoreStep, IsLastStep, IsJudged};
 ghost use Rattle.h2_frames.specs.FrameHead.{length_with as length_in, kind_of, flags_of, stream_with as stream_in, frame_of};
 ghost use Rattle.h2_frames.specs.Http2Frame.{frames_of};
 ghost use Rattle.h2_frames.specs.FrameReader.{Position, no_bytes, bytes_read, Stands, position_after, answer_of, work_left, IsPart};
 ghost use Rattle.h2_frames.specs.FrameWords.{context_of};
 
+use crate::context::{Context, after};
 use crate::fault::H2Fault;
 use crate::frame_head::{flags, kind, length_with, stream_with};
-use crate::frame_rules::{after, judge};
+use crate::frame_rules::judge;
 use crate::parts::{FrameFed, Part};
-use crate::verdict::{Context, Judgement};
-use std::alloc::{AllocError, Global};
+use crate::stage::Stage;
+use crate::verdict::Judgement;
+use base::{NoMemory, append_within};
+use std::alloc::Global;
 use std::marker::Model;
 
 /// Takes bytes up to a number, for which there is room.
@@ -23,10 +26,7 @@ fn fill(kept: &mut Vec<u8>, most: usize, bytes: &[u8]) -> usize
     ensures room { vec_capacity kept.old ≤ vec_capacity kept.new }
 {
     let n = bytes.len().min(most);
-    match kept.extend_from_slice(&bytes[..n]) {
-        Ok(()) => {}
-        Err(_) => unreachable!(),
-    }
+    append_within(kept, &bytes[..n]);
     n
 }
 
@@ -46,6 +46,7 @@ fn take_in(at: Context, head: &mut Vec<u8>, most: usize, bytes: &[u8]) -> Result
     }
 }
 
+/// The part that a whole head is.
 fn begin(head: &[u8]) -> Part
     ensures { result ≡ Part.Begin (length_in 0 head.now) (kind_of head.now) (flags_of head.now) (stream_in 0 head.now) }
 {
@@ -57,6 +58,16 @@ fn begin(head: &[u8]) -> Part
     }
 }
 
+/// Keeps a fault of the frame that is read.
+fn refuse(stage: &mut Stage, place: u64, code: u32) -> H2Fault
+    ensures fault { result ≡ record { place = place; code = code } }
+    ensures stage { stage.new ≡ Stage.Refused result }
+{
+    let fault = H2Fault { place, code };
+    *stage = Stage::Refused(fault);
+    fault
+}
+
 /// Cuts a stream of bytes into frames, and judges each by the rules that it keeps by itself and by
 /// the frames before it. Which streams were opened, and what a payload says, is for others.
 ///
@@ -66,69 +77,58 @@ pub struct FrameReader {
     context: Context,
     place: u64,
     head: Vec<u8>,
-    left: usize,
-    fault: Option<H2Fault>,
+    stage: Stage,
 }
 
 impl Model for FrameReader {
     ghost use Rattle.std.specs.Prelude.{◌≤◌, length, vec_capacity};
-    ghost use Rattle.h2_frames.specs.FrameWords.{context_of};
+    ghost use Rattle.h2_frames.specs.FrameWords.{context_of, left_in, fault_in, IsHeadOf};
     ghost use Rattle.h2_frames.specs.FrameReader.{Kept};
 
     ghost Value = { Kept };
 
-    ghost view = { λ r. record { context = context_of r.context; place = r.place; head = r.head.items; left = r.left; fault = r.fault } };
+    ghost view = { λ r. record {
+      context = context_of r.context;
+      place = r.place;
+      head = r.head.items;
+      left = left_in r.stage;
+      fault = fault_in r.stage;
+    } };
 
-    ghost invariant = { λ r. (length r.head.items ≤ 10) × (10 ≤ vec_capacity r.head) };
+    ghost invariant = { λ r. (length r.head.items ≤ 10) × (10 ≤ vec_capacity r.head) × IsHeadOf r.stage r.head.items };
 }
 
 impl FrameReader {
     /// A reader to which no byte came. It keeps room for ten bytes, and takes no other memory.
-    pub fn new(alloc: Global) -> Result<FrameReader, AllocError>
+    pub fn new(alloc: Global) -> Result<FrameReader, NoMemory>
         ensures stands { IfOk result (λ reader. Stands reader no_bytes) }
         ensures fault { IfOk result (λ reader. reader.fault ≡ None) }
     {
         let head = Vec::with_capacity(alloc, 10)?;
         Ok(FrameReader {
-            context: Context {
-                first: true,
-                block: None,
-            },
+            context: Context::First,
             place: 0,
             head,
-            left: 0,
-            fault: None,
+            stage: Stage::Head,
         })
-    }
-
-    /// Keeps a fault of the frame that is read.
-    fn refuse(&mut self, code: u32) -> H2Fault
-        ensures place { result.place ≡ self.old.place }
-        ensures code { result.code ≡ code }
-        ensures fault { self.new ≡ record self.old { fault = Some result } }
-    {
-        let fault = H2Fault {
-            place: self.place,
-            code,
-        };
-        self.fault = Some(fault);
-        fault
     }
 
     /// Takes bytes of a head, which has less than nine.
     fn take_head(&mut self, bytes: &[u8]) -> Result<FrameFed, H2Fault>
         requires fault { self.old.fault ≡ None }
+        requires left { self.old.left ≡ 0 }
         requires head { length self.old.head < 9 }
         ensures { IsHeadStep self.old bytes.now result self.new }
     {
         let most = 9 - self.head.len();
         match take_in(self.context, &mut self.head, most, bytes) {
-            Err(code) => Err(self.refuse(code)),
+            Err(code) => Err(refuse(&mut self.stage, self.place, code)),
             Ok(taken) => {
                 if self.head.len() < 9 {
+                    self.stage = Stage::Head;
                     return Ok(FrameFed { taken, part: None });
                 }
-                self.left = length_with(0, self.head.as_slice()) as usize;
+                self.stage = Stage::Payload(length_with(0, self.head.as_slice()) as usize);
                 Ok(FrameFed {
                     taken,
                     part: Some(begin(self.head.as_slice())),
@@ -137,20 +137,21 @@ impl FrameReader {
         }
     }
 
-    /// Takes the first bytes of a payload.
-    fn take_first(&mut self, bytes: &[u8]) -> Result<FrameFed, H2Fault>
+    /// Takes the first bytes of a payload, of which so many are to come.
+    fn take_first(&mut self, left: usize, bytes: &[u8]) -> Result<FrameFed, H2Fault>
         requires fault { self.old.fault ≡ None }
         requires head { length self.old.head ≡ 9 }
+        requires is { left ≡ self.old.left }
         requires left { 0 < self.old.left }
         requires some { 0 < length bytes.now }
         ensures { IsPayloadStep self.old bytes.now result self.new }
     {
-        let most = self.left.min(10 - self.head.len());
+        let most = left.min(10 - self.head.len());
         match take_in(self.context, &mut self.head, most, bytes) {
-            Err(code) => Err(self.refuse(code)),
+            Err(code) => Err(refuse(&mut self.stage, self.place, code)),
             Ok(_) => {
-                let taken = self.left.min(bytes.len());
-                self.left -= taken;
+                let taken = left.min(bytes.len());
+                self.stage = Stage::Payload(left - taken);
                 Ok(FrameFed {
                     taken,
                     part: Some(Part::Piece(taken)),
@@ -159,20 +160,41 @@ impl FrameReader {
         }
     }
 
-    /// Takes further bytes of a payload.
-    fn take_payload(&mut self, bytes: &[u8]) -> Result<FrameFed, H2Fault>
+    /// Takes further bytes of a payload, of which so many are to come.
+    fn take_payload(&mut self, left: usize, bytes: &[u8]) -> Result<FrameFed, H2Fault>
         requires fault { self.old.fault ≡ None }
         requires head { 10 ≤ length self.old.head }
+        requires is { left ≡ self.old.left }
         requires left { 0 < self.old.left }
         requires some { 0 < length bytes.now }
         ensures { IsPayloadStep self.old bytes.now result self.new }
     {
-        let taken = self.left.min(bytes.len());
-        self.left -= taken;
+        let taken = left.min(bytes.len());
+        self.stage = Stage::Payload(left - taken);
         Ok(FrameFed {
             taken,
             part: Some(Part::Piece(taken)),
         })
+    }
+
+    /// Takes bytes of a payload, of which so many are to come.
+    fn take_more(&mut self, left: usize, bytes: &[u8]) -> Result<FrameFed, H2Fault>
+        requires fault { self.old.fault ≡ None }
+        requires head { 9 ≤ length self.old.head }
+        requires is { left ≡ self.old.left }
+        requires left { 0 < self.old.left }
+        ensures { IsMoreStep self.old bytes.now result self.new }
+    {
+        if bytes.is_empty() {
+            return Ok(FrameFed {
+                taken: 0,
+                part: None,
+            });
+        }
+        if self.head.len() == 9 {
+            return self.take_first(left, bytes);
+        }
+        self.take_payload(left, bytes)
     }
 
     /// Ends a frame.
@@ -186,6 +208,7 @@ impl FrameReader {
         self.context = after(self.context, self.head.as_slice());
         self.place = self.place.saturating_add(9 + size as u64);
         self.head.clear();
+        self.stage = Stage::Head;
         Ok(FrameFed {
             taken: 0,
             part: Some(Part::Done),
@@ -216,26 +239,11 @@ impl FrameReader {
         ensures refused { IfErr result (λ f. self.new.fault ≡ Some f) }
         ensures accepted { OnOk result (self.new.fault ≡ None) }
     {
-        match self.fault {
-            Some(fault) => Err(fault),
-            None => {
-                if self.head.len() < 9 {
-                    return self.take_head(bytes);
-                }
-                if self.left == 0 {
-                    return self.finish();
-                }
-                if bytes.is_empty() {
-                    return Ok(FrameFed {
-                        taken: 0,
-                        part: None,
-                    });
-                }
-                if self.head.len() == 9 {
-                    return self.take_first(bytes);
-                }
-                self.take_payload(bytes)
-            }
+        match self.stage {
+            Stage::Refused(fault) => Err(fault),
+            Stage::Head => self.take_head(bytes),
+            Stage::Payload(0) => self.finish(),
+            Stage::Payload(left) => self.take_more(left, bytes),
         }
     }
 }

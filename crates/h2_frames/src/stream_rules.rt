@@ -8,14 +8,15 @@ ghost use Rattle.h2_frames.specs.FrameWords.{verdict_of, context_of};
 use crate::codes::{
     ACK, CONTINUATION, DATA, GOAWAY, HEADERS, PING, PRIORITY, PUSH_PROMISE, RST_STREAM, SETTINGS,
 };
+use crate::context::Context;
 use crate::frame_head::{flags, has_flag, kind, stream_with};
-use crate::verdict::{Context, Verdict, breaks_if, of_all};
+use crate::verdict::{Verdict, breaks_if, of_all};
 
 /// The first frame is SETTINGS without ACK.
 pub(crate) fn begins_with_settings(at: Context, bytes: &[u8]) -> Verdict
     ensures { verdict_of result ≡ begins (context_of at) bytes.now }
 {
-    if !at.first {
+    if !at.is_first() {
         return Verdict::Keeps;
     }
     if bytes.len() < 4 {
@@ -53,6 +54,7 @@ pub(crate) fn continues_block(block: Option<u32>, bytes: &[u8]) -> Verdict
     }
 }
 
+/// Whether frames of the type are of a stream.
 fn is_of_stream(kind: u8) -> bool
     ensures { result ≡ of_stream kind }
 {
@@ -63,6 +65,7 @@ fn is_of_stream(kind: u8) -> bool
         || kind == PUSH_PROMISE
 }
 
+/// Whether frames of the type are of the whole connection.
 fn is_of_connection(kind: u8) -> bool
     ensures { result ≡ of_connection kind }
 {

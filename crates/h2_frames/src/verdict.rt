@@ -4,31 +4,29 @@ ghost use Rattle.std.specs.Prelude.{◌≡◌};
 ghost use Rattle.h2_frames.specs.FrameErrors.{keeps_if as keeps, breaks_if as breaks, of_all as all_or_none, first_broken as first};
 ghost use Rattle.h2_frames.specs.FrameWords.{verdict_of, judgement_of};
 
-/// Where a frame stands among the frames.
-#[derive(Clone, Copy)]
-pub(crate) struct Context {
-    /// No frame came before it.
-    pub(crate) first: bool,
-    /// The stream of the field block that is open (RFC 9113, section 4.3).
-    pub(crate) block: Option<u32>,
-}
-
 /// A rule, as far as the bytes that have come decide it.
 #[derive(Clone, Copy)]
 pub(crate) enum Verdict {
+    /// The bytes may go on so that it is kept, and so that it is broken.
     Undecided,
+    /// All frames that begin so keep it.
     Keeps,
+    /// All frames that begin so break it.
     Breaks,
 }
 
 /// All rules, in order.
 #[derive(Clone, Copy)]
 pub(crate) enum Judgement {
+    /// A rule is not decided, and those before it are kept.
     Open,
+    /// All rules are kept.
     Fine,
+    /// The code of the first rule that is broken.
     Fault(u32),
 }
 
+/// Kept where a test holds, else broken.
 pub(crate) fn keeps_if(holds: bool) -> Verdict
     ensures { verdict_of result ≡ keeps holds }
 {
@@ -39,6 +37,7 @@ pub(crate) fn keeps_if(holds: bool) -> Verdict
     }
 }
 
+/// Broken where a test holds, else kept.
 pub(crate) fn breaks_if(broken: bool) -> Verdict
     ensures { verdict_of result ≡ breaks broken }
 {

@@ -8,7 +8,7 @@ use Rattle.hpack_codec.specs.PrefixInteger.{integer_bytes}
 use Rattle.hpack_codec.specs.StringLiteral.{string_bytes_of}
 use Rattle.hpack_codec.specs.StaticTable.{HeaderField, static_table}
 use Rattle.hpack_codec.specs.DynamicTable.{HeaderTable, resized_to}
-use Rattle.schema.specs.declared.field_pair.FieldPair.{FieldPair}
+use Rattle.base.specs.declared.field_pair.FieldPair.{FieldPair}
 
 -- the first index of entries, from `i` on, whose name and value are those of the field, or 0 if there is none
 abbrev pub field_index_from : ℕ → List HeaderField → HeaderField → ℕ

@@ -42,6 +42,13 @@ second_request = record {
   table = record { fields = (codes "cache-control", codes "no-cache") ∷ (codes ":authority", codes "www.example.com") ∷ []; max_size = 4096 };
 }
 
+-- a response whose second field has a new name and is added to the table, and the table after it
+abbrev pub first_response : HeaderBlock
+first_response = record {
+  fields = (codes ":status", codes "200") ∷ (codes "a", codes "b") ∷ [];
+  table = record { fields = (codes "a", codes "b") ∷ []; max_size = 4096 };
+}
+
 -- blocks, and what is wrong with some
 pub record BlockExamplesHold : Type 0 where
   pub first : header_block first_table (0x82 ∷ 0x86 ∷ 0x84 ∷ 0x41 ∷ 0x8c ∷ 0xf1 ∷ 0xe3 ∷ 0xc2 ∷ 0xe5 ∷ 0xf2 ∷ 0x3a ∷ 0x6b ∷ 0xa0 ∷ 0xab ∷ 0x90 ∷ 0xf4 ∷ 0xff ∷ []) ≡ Ok first_request
@@ -52,3 +59,6 @@ pub record BlockExamplesHold : Type 0 where
   pub large_size : header_block first_table (0x3f ∷ 0xe2 ∷ 0x1f ∷ []) ≡ Err (Bad 0)
   pub evicted : header_block first_request.table (0x20 ∷ 0xbe ∷ []) ≡ Err (Bad 1)
   pub sizes : header_block first_request.table (0x20 ∷ 0x3f ∷ 0xe1 ∷ 0x1f ∷ []) ≡ Ok (record { fields = []; table = first_table })
+  pub added : header_block first_table (0x88 ∷ 0x40 ∷ 0x01 ∷ 0x61 ∷ 0x01 ∷ 0x62 ∷ []) ≡ Ok first_response
+  pub newest : header_block first_response.table (0x88 ∷ 0xbe ∷ []) ≡ Ok first_response
+  pub past_newest : header_block first_response.table (0xbf ∷ []) ≡ Err (Bad 0)

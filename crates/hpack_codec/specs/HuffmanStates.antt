@@ -4,6 +4,7 @@ use Rattle.std.specs.Prelude.{◌≡◌, ◌==◌, ◌<◌, nat_lt, ◌++◌, �
 use Rattle.std.specs.Option.{option_map}
 use Rattle.hpack_codec.specs.Huffman.{CodePrefix, no_bits, four_bits, bits_of, text_from}
 
+-- so many bits, so far past the codes of that length, and whether all are ones
 abbrev pub at : ℕ → ℕ → Bool → CodePrefix
 at bits offset ones = record { bits = bits; offset = offset; ones = ones }
 

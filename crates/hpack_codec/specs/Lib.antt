@@ -14,6 +14,5 @@ pub mod RepresentationReads
 pub mod HeaderBlock
 pub mod BlockReads
 pub mod DecoderState
-pub mod KeptBytes
 pub mod EncodedBlock
 pub mod HpackExamples

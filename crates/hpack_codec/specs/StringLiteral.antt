@@ -1,7 +1,7 @@
 -- String literals (RFC 7541, section 5.2): a bit that says that the string is Huffman-coded, a length of seven bits, and so many bytes.
 use Rattle.std.specs.Prelude.{◌+◌, ◌++◌, ℕ, List, [], ◌∷◌, length, take, drop, if◌then◌else◌, nat_lt, Option, Some, None}
-use Rattle.std.specs.Option.{option_map}
-use Rattle.hpack_codec.specs.PrefixInteger.{and_then, integer_in, integer_bytes}
+use Rattle.std.specs.Option.{option_and_then, option_map}
+use Rattle.hpack_codec.specs.PrefixInteger.{integer_in, integer_bytes}
 use Rattle.hpack_codec.specs.Huffman.{huffman_text}
 
 -- what bytes spell, where the first byte of the string is `b`
@@ -15,7 +15,7 @@ sized_text b size len rest = if nat_lt (length rest) size then None else option_
 -- the string at the front, and how many bytes it takes
 abbrev pub string_in : List ℕ → Option (List ℕ × ℕ)
 string_in [] = None
-string_in (b ∷ bs) = and_then (integer_in 127 (b ∷ bs)) (λ n. sized_text b n.0 n.1 (drop n.1 (b ∷ bs)))
+string_in (b ∷ bs) = option_and_then (λ (n : ℕ × ℕ). sized_text b n.0 n.1 (drop n.1 (b ∷ bs))) (integer_in 127 (b ∷ bs))
 
 -- a string that is not Huffman-coded
 abbrev pub string_bytes_of : List ℕ → List ℕ

@@ -3,14 +3,14 @@ use Rattle.std.specs.Prelude.{◌≡◌, ◌<◌, ◌++◌, ℕ, Bool, true, fal
 use Rattle.std.specs.Option.{IsSomeAnd}
 use Rattle.hpack_codec.specs.StaticTable.{HeaderField, static_table}
 use Rattle.hpack_codec.specs.DynamicTable.{HeaderTable}
-use Rattle.hpack_codec.specs.declared.index_table.IndexPlace.{IndexPlace}
-use Rattle.hpack_codec.specs.declared.index_table.IndexPlace.TheVariants.{Static, Dynamic}
+use Rattle.hpack_codec.specs.declared.index_table.TableRow.{TableRow}
+use Rattle.hpack_codec.specs.declared.index_table.TableRow.TheVariants.{Static, Dynamic}
 
 -- where the field of an index stands in a table, or that there is none
-abbrev pub IsIndexPlace : Option HeaderField → HeaderTable → Option IndexPlace → Type 0
-IsIndexPlace field t None = field ≡ None
-IsIndexPlace field t (Some (Static i)) = (field ≡ Some (get_or static_table i ([], []))) × (i < 61)
-IsIndexPlace field t (Some (Dynamic i)) = (field ≡ Some (get_or t.fields i ([], []))) × (i < length t.fields)
+abbrev pub IsTableRow : Option HeaderField → HeaderTable → Option TableRow → Type 0
+IsTableRow field t None = field ≡ None
+IsTableRow field t (Some (Static i)) = (field ≡ Some (get_or static_table i ([], []))) × (i < 61)
+IsTableRow field t (Some (Dynamic i)) = (field ≡ Some (get_or t.fields i ([], []))) × (i < length t.fields)
 
 -- the name of a field was appended, or there is no field
 abbrev pub IsNamePut : Option HeaderField → List ℕ → List ℕ → Bool → Type 0

@@ -19,7 +19,7 @@ bytes_len [] = 0
 bytes_len (l ∷ ls) = (l.name + l.value) + bytes_len ls
 
 -- the lengths of the field that is the i-th newest, counted from 0, and where it begins
-pub record IsPlace (ls : List FieldLengths) (i start : ℕ) (l : FieldLengths) : Type 0 where
+pub record IsFieldStart (ls : List FieldLengths) (i start : ℕ) (l : FieldLengths) : Type 0 where
   pub lengths : slice_get ls (length ls - 1 - i) ≡ Some l
   pub before : start ≡ bytes_len (take (length ls - 1 - i) ls)
   pub within : start + (l.name + l.value) ≤ bytes_len ls

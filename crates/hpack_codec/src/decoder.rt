@@ -8,7 +8,7 @@ use crate::dynamic_table::DynamicTable;
 use crate::fault::{BlockFault, ReadFault};
 use crate::fields::{Fields, MAX_LIST_SIZE};
 use crate::representation::read_representation;
-use schema::NoMemory;
+use base::NoMemory;
 use std::alloc::Global;
 use std::marker::Model;
 

@@ -3,10 +3,10 @@ ghost use Rattle.std.specs.Prelude.{◌≡◌, ◌+◌, ◌<◌, ◌≤◌, ◌+
 ghost use Rattle.hpack_codec.specs.DynamicTable.{added_to, first_table, fields_size, kept_within, resized_to};
 ghost use Rattle.hpack_codec.specs.TableRings.{IsEvicted};
 
+use crate::field_starts::{append_range, field_start};
 use crate::fields::FIELD_OVERHEAD;
-use crate::places::{append_range, place_of};
+use base::NoMemory;
 use circular_buffer::HeapCircularBuffer;
-use schema::NoMemory;
 use std::alloc::Global;
 use std::marker::Model;
 
@@ -19,7 +19,9 @@ const MAX_FIELDS: usize = 128;
 /// How many bytes the name and the value of a field have.
 #[derive(Clone, Copy, Debug, Drop)]
 pub(crate) struct FieldLengths {
+    /// The bytes of the name.
     pub(crate) name: usize,
+    /// The bytes of the value.
     pub(crate) value: usize,
 }
 
@@ -97,7 +99,7 @@ impl DynamicTable {
         ensures name { out.new.items ≡ out.old.items ++ (get_or self.now.fields i ([], [])).0 }
         ensures capacity { vec_capacity out.old ≤ vec_capacity out.new }
     {
-        let (start, lengths) = place_of(&self.lengths, i);
+        let (start, lengths) = field_start(&self.lengths, i);
         append_range(&self.bytes, start, start + lengths.name, out);
     }
 
@@ -110,7 +112,7 @@ impl DynamicTable {
         ensures name { result ≡ length (get_or self.now.fields i ([], [])).0 }
         ensures capacity { vec_capacity out.old ≤ vec_capacity out.new }
     {
-        let (start, lengths) = place_of(&self.lengths, i);
+        let (start, lengths) = field_start(&self.lengths, i);
         let end = start + lengths.name + lengths.value;
         append_range(&self.bytes, start, end, out);
         lengths.name

@@ -1,48 +1,35 @@
 //! Encoding header fields (RFC 7541, section 6), without a dynamic table.
 ghost use Rattle.std.specs.Prelude.{◌≡◌, ◌+◌, ◌++◌, ◌<◌, OnOk, OnErr};
 ghost use Rattle.std.specs.List.{flat_map};
-ghost use Rattle.hpack_codec.specs.PrefixInteger.{groups_of, integer_bytes};
+ghost use Rattle.base.specs.Extends.{Extends};
+ghost use Rattle.hpack_codec.specs.PrefixInteger.{integer_bytes};
 ghost use Rattle.hpack_codec.specs.StringLiteral.{string_bytes_of};
 ghost use Rattle.hpack_codec.specs.EncodedBlock.{encoded_block, encoded_field, encoded_literal, first_bytes, name_string, pairs_of};
-ghost use Rattle.hpack_codec.specs.KeptBytes.{Keeps};
 
 use crate::static_table::{field_index, name_index};
-use schema::{FieldPair, List, NoMemory};
+use base::{FieldPair, List, NoMemory, cut_back, put_groups};
 
-/// Appends a number in groups of seven bits, of `left` groups at most.
-fn put_groups(n: u64, left: usize, out: &mut Vec<u8>) -> Result<(), NoMemory>
-    ensures ok { OnOk result (out.new.items ≡ out.old.items ++ groups_of left n) }
-    ensures err { OnErr result (Keeps out.old.items out.new.items) }
-{
-    if left == 0 {
-        return Ok(());
-    }
-    if n < 128 {
-        out.push(n as u8)?;
-        return Ok(());
-    }
-    out.push((n % 128 + 128) as u8)?;
-    put_groups(n / 128, left - 1, out)
-}
+/// How many groups of seven bits a number of 64 bits has at most.
+const MAX_GROUPS: usize = 10;
 
 /// Appends a number behind the bits of a pattern (RFC 7541, section 5.1).
 fn put_integer(pattern: u8, ones: u8, n: u64, out: &mut Vec<u8>) -> Result<(), NoMemory>
     requires { pattern + ones < 256 }
     ensures ok { OnOk result (out.new.items ≡ out.old.items ++ integer_bytes pattern ones n) }
-    ensures err { OnErr result (Keeps out.old.items out.new.items) }
+    ensures err { OnErr result (Extends out.old.items out.new.items) }
 {
     if n < ones as u64 {
         out.push(pattern + n as u8)?;
         return Ok(());
     }
     out.push(pattern + ones)?;
-    put_groups(n - ones as u64, 10, out)
+    put_groups(out, n - ones as u64, MAX_GROUPS)
 }
 
 /// Appends a string that is not Huffman-coded (RFC 7541, section 5.2).
 fn put_string_of(text: &[u8], out: &mut Vec<u8>) -> Result<(), NoMemory>
     ensures ok { OnOk result (out.new.items ≡ out.old.items ++ string_bytes_of text.now) }
-    ensures err { OnErr result (Keeps out.old.items out.new.items) }
+    ensures err { OnErr result (Extends out.old.items out.new.items) }
 {
     put_integer(0, 127, text.len() as u64, out)?;
     out.extend_from_slice(text)?;
@@ -53,7 +40,7 @@ fn put_string_of(text: &[u8], out: &mut Vec<u8>) -> Result<(), NoMemory>
 /// a string (RFC 7541, section 6.2.2).
 fn put_literal(index: usize, name: &[u8], value: &[u8], out: &mut Vec<u8>) -> Result<(), NoMemory>
     ensures ok { OnOk result (out.new.items ≡ out.old.items ++ encoded_literal index (name.now, value.now)) }
-    ensures err { OnErr result (Keeps out.old.items out.new.items) }
+    ensures err { OnErr result (Extends out.old.items out.new.items) }
 {
     put_integer(0, 15, index as u64, out)?;
     put_name_string(index, name, out)?;
@@ -63,7 +50,7 @@ fn put_literal(index: usize, name: &[u8], value: &[u8], out: &mut Vec<u8>) -> Re
 /// Appends the name of a literal that has no index.
 fn put_name_string(index: usize, name: &[u8], out: &mut Vec<u8>) -> Result<(), NoMemory>
     ensures ok { OnOk result (out.new.items ≡ out.old.items ++ name_string index name.now) }
-    ensures err { OnErr result (Keeps out.old.items out.new.items) }
+    ensures err { OnErr result (Extends out.old.items out.new.items) }
 {
     if index == 0 {
         put_string_of(name, out)
@@ -75,7 +62,7 @@ fn put_name_string(index: usize, name: &[u8], out: &mut Vec<u8>) -> Result<(), N
 /// Appends a field: the index of the entry that it equals, or a literal.
 fn put_field(name: &[u8], value: &[u8], out: &mut Vec<u8>) -> Result<(), NoMemory>
     ensures ok { OnOk result (out.new.items ≡ out.old.items ++ encoded_field (name.now, value.now)) }
-    ensures err { OnErr result (Keeps out.old.items out.new.items) }
+    ensures err { OnErr result (Extends out.old.items out.new.items) }
 {
     let index = field_index(name, value);
     if index == 0 {
@@ -88,7 +75,7 @@ fn put_field(name: &[u8], value: &[u8], out: &mut Vec<u8>) -> Result<(), NoMemor
 /// Appends the fields in order.
 fn put_fields(fields: &[FieldPair], out: &mut Vec<u8>) -> Result<(), NoMemory>
     ensures ok { OnOk result (out.new.items ≡ out.old.items ++ flat_map encoded_field (pairs_of fields.now)) }
-    ensures err { OnErr result (Keeps out.old.items out.new.items) }
+    ensures err { OnErr result (Extends out.old.items out.new.items) }
 {
     for field in fields {
         put_field(field.name.as_slice(), field.value.as_slice(), out)?;
@@ -100,7 +87,7 @@ fn put_fields(fields: &[FieldPair], out: &mut Vec<u8>) -> Result<(), NoMemory>
 /// none is used (RFC 7541, section 6.3).
 fn put_beginning(first: bool, out: &mut Vec<u8>) -> Result<(), NoMemory>
     ensures ok { OnOk result (out.new.items ≡ out.old.items ++ first_bytes first) }
-    ensures err { OnErr result (Keeps out.old.items out.new.items) }
+    ensures err { OnErr result (Extends out.old.items out.new.items) }
 {
     if first {
         out.push(0x20)?;
@@ -111,7 +98,7 @@ fn put_beginning(first: bool, out: &mut Vec<u8>) -> Result<(), NoMemory>
 /// Appends the parts of a block.
 fn put_block(first: bool, fields: &[FieldPair], out: &mut Vec<u8>) -> Result<(), NoMemory>
     ensures ok { OnOk result (out.new.items ≡ out.old.items ++ encoded_block first (pairs_of fields.now)) }
-    ensures err { OnErr result (Keeps out.old.items out.new.items) }
+    ensures err { OnErr result (Extends out.old.items out.new.items) }
 {
     put_beginning(first, out)?;
     put_fields(fields, out)
@@ -126,8 +113,5 @@ pub fn encode(first: bool, fields: &List<FieldPair>, out: &mut Vec<u8>) -> Resul
 {
     let len = out.len();
     let done = put_block(first, fields.as_slice(), out);
-    if done.is_err() {
-        out.truncate(len);
-    }
-    done
+    cut_back(out, len, done)
 }

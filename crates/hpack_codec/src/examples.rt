@@ -11,7 +11,7 @@ pub fn huffman_examples()
     ensures { HuffmanExamplesHold }
 {}
 
-/// Two requests on one connection, and blocks that are refused.
+/// Two requests and two responses on a connection, and blocks that are refused.
 pub fn block_examples()
     ensures { BlockExamplesHold }
 {}

@@ -2,7 +2,7 @@
 ghost use Rattle.std.specs.Prelude.{◌≡◌, ◌==◌, ◌+◌, ◌<◌, ◌≤◌, ◌++◌, ◌∷◌, [], length, get_or, IfOk};
 ghost use Rattle.hpack_codec.specs.DynamicTable.{fields_size};
 
-use schema::NoMemory;
+use base::{NoMemory, append_within};
 use std::alloc::Global;
 use std::marker::Model;
 
@@ -110,14 +110,8 @@ impl Fields {
         let start = self.bytes.len();
         let middle = start + name.len();
         let end = middle + value.len();
-        match self.bytes.extend_from_slice(name) {
-            Ok(()) => {}
-            Err(_) => unreachable!(),
-        }
-        match self.bytes.extend_from_slice(value) {
-            Ok(()) => {}
-            Err(_) => unreachable!(),
-        }
+        append_within(&mut self.bytes, name);
+        append_within(&mut self.bytes, value);
         match self.spans.push(FieldSpan { start, middle, end }) {
             Ok(()) => {}
             Err(_) => unreachable!(),

@@ -1,32 +1,34 @@
 //! The fields of indexes, over the static and the dynamic table (RFC 7541, section 2.3.3).
 ghost use Rattle.std.specs.Prelude.{◌≡◌, ◌+◌, ◌≤◌, length, vec_capacity};
 ghost use Rattle.hpack_codec.specs.DynamicTable.{field_at};
-ghost use Rattle.hpack_codec.specs.TablePuts.{IsFieldPut, IsIndexPlace, IsNamePut};
+ghost use Rattle.hpack_codec.specs.TablePuts.{IsFieldPut, IsTableRow, IsNamePut};
 
 use crate::dynamic_table::DynamicTable;
-use crate::places::append;
 use crate::static_table::{STATIC_FIELDS, static_field};
+use base::append_within;
 
 /// Where the field of an index stands, counted from 0 in its table.
 #[derive(Clone, Copy)]
-enum IndexPlace {
+enum TableRow {
+    /// So many fields stand before it in the static table.
     Static(usize),
+    /// So many newer fields stand before it in the dynamic table.
     Dynamic(usize),
 }
 
 /// Where the field of an index stands, if there is one.
-fn index_place(table: &DynamicTable, index: u32) -> Option<IndexPlace>
-    ensures { IsIndexPlace (field_at table.now index) table.now result }
+fn row_of(table: &DynamicTable, index: u32) -> Option<TableRow>
+    ensures { IsTableRow (field_at table.now index) table.now result }
 {
     let Some(i) = (index as usize).checked_sub(1) else {
         return None;
     };
     if i < STATIC_FIELDS {
-        return Some(IndexPlace::Static(i));
+        return Some(TableRow::Static(i));
     }
     let newer = i - STATIC_FIELDS;
     if newer < table.len() {
-        Some(IndexPlace::Dynamic(newer))
+        Some(TableRow::Dynamic(newer))
     } else {
         None
     }
@@ -38,12 +40,12 @@ pub(crate) fn put_name_at(table: &DynamicTable, index: u32, out: &mut Vec<u8>) -
     ensures put { IsNamePut (field_at table.now index) out.old.items out.new.items result }
     ensures capacity { vec_capacity out.old ≤ vec_capacity out.new }
 {
-    match index_place(table, index) {
-        Some(IndexPlace::Static(i)) => {
-            append(static_field(i).0, out);
+    match row_of(table, index) {
+        Some(TableRow::Static(i)) => {
+            append_within(out, static_field(i).0);
             true
         }
-        Some(IndexPlace::Dynamic(i)) => {
+        Some(TableRow::Dynamic(i)) => {
             table.put_name(i, out);
             true
         }
@@ -58,14 +60,14 @@ pub(crate) fn put_field_at(table: &DynamicTable, index: u32, out: &mut Vec<u8>) 
     ensures put { IsFieldPut (field_at table.now index) out.old.items out.new.items result }
     ensures capacity { vec_capacity out.old ≤ vec_capacity out.new }
 {
-    match index_place(table, index) {
-        Some(IndexPlace::Static(i)) => {
+    match row_of(table, index) {
+        Some(TableRow::Static(i)) => {
             let (name, value) = static_field(i);
-            append(name, out);
-            append(value, out);
+            append_within(out, name);
+            append_within(out, value);
             Some(name.len())
         }
-        Some(IndexPlace::Dynamic(i)) => Some(table.put_field(i, out)),
+        Some(TableRow::Dynamic(i)) => Some(table.put_field(i, out)),
         None => None,
     }
 }

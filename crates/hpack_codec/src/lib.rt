@@ -6,25 +6,21 @@
 mod decoder;
 mod dynamic_table;
 mod encoding;
-mod examples;
+pub mod examples;
 mod fault;
+mod field_starts;
 mod fields;
 mod huffman;
 mod index_table;
 mod integer;
-mod laws;
+pub mod laws;
 mod literal;
-mod places;
 mod put;
 mod representation;
 mod static_table;
 mod string_literal;
-#[cfg(test)]
-mod tests;
 
 pub use decoder::Decoder;
 pub use encoding::encode;
-pub use examples::{block_examples, huffman_examples, integer_examples};
 pub use fault::BlockFault;
 pub use fields::Fields;
-pub use laws::{lists_within_the_limit_are_read, written_blocks_spell_their_fields};

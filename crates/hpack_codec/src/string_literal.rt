@@ -6,6 +6,7 @@ ghost use Rattle.hpack_codec.specs.StringLiteral.{string_in, text_of};
 use crate::huffman::put_text;
 use crate::integer::read_integer;
 use crate::put::Put;
+use base::append_within;
 
 /// Appends bytes as they are, where so many may be.
 fn put_plain(bytes: &[u8], room: usize, out: &mut Vec<u8>) -> Put
@@ -17,10 +18,8 @@ fn put_plain(bytes: &[u8], room: usize, out: &mut Vec<u8>) -> Put
     if room < bytes.len() {
         return Put::Over;
     }
-    match out.extend_from_slice(bytes) {
-        Ok(()) => Put::Whole,
-        Err(_) => unreachable!(),
-    }
+    append_within(out, bytes);
+    Put::Whole
 }
 
 /// Appends what bytes spell behind a length whose first byte is `first`, where so many may be.

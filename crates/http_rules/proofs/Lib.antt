@@ -1,12 +1,22 @@
-pub mod AnswerLemmas
-pub mod BuildLemmas
-pub mod DecodingLemmas
+-- Laws of templates, which the proofs of other crates cite.
+pub mod Theorems
+-- The reading machine reads the grammar: what it reads is a template, and each template is read.
 pub mod PartLemmas
 pub mod MachineReads
 pub mod MachineRuns
-pub mod MatchLemmas
+-- Faults end the longest prefix that begins a template (`parse_template`, `fault_ends_longest_prefix`).
 pub mod PrefixLemmas
-pub mod PrintLemmas
+pub mod BuildLemmas
+pub mod AnswerLemmas
+-- The ranges of variables (`ranges_are_in_order`, `variables_take_segments`).
 pub mod RangeLemmas
-pub mod StandardFacts
+-- What is printed means the same template (`put_template`, `printed_means_the_same`).
+pub mod PrintLemmas
+-- A template fits a path in one way, and its spans lie inside (`fits_in_one_way`, `spans_lie_inside`).
 pub mod SpanLemmas
+-- Literals fit their text (`literal_takes_its_bytes`, `literals_fit_their_text`).
+pub mod MatchLemmas
+-- What a variable takes, decoded (`capture`).
+pub mod DecodingLemmas
+-- Worked examples of the definitions.
+pub mod StandardFacts

@@ -45,6 +45,7 @@ some_shares (Literal l ∷ ss) a n e = absurd (cc (e))
 some_shares (One ∷ ss) a n e = absurd a
 some_shares (Rest ∷ ss) a n e = absurd a
 
+-- a template without wildcards fits its own text, and no other path
 pub literals_exact : (t : Template) (path : List ℕ) → t.segments ≢ [] → AreLiterals t.segments → IsPath path → Fits t path ↔ (path ≡ slashed_segments t.segments ++ verb_text t.verb)
 literals_exact t path n a is = (
   (λ f. let m = f.1 in m.written ∙ ap (λ z. z ++ verb_text t.verb) (literal_text t.segments m.taken a m.each)),

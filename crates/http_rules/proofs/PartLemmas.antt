@@ -1,30 +1,28 @@
 -- What a class says of a byte, how words grow, and what may stand before parts that follow.
-use Rattle.std.proofs.Common.{◌≡◌, ℕ, ◌+◌, Bool, true, false, cond, eqb, List, [], ◌∷◌, ◌++◌, length, map, Option, Some, None, refl, sym, ap, ◌∙◌, subst, arith, append_assoc, length-append, eqb-true}
+use Rattle.std.proofs.Common.{◌≡◌, ℕ, ◌+◌, Bool, true, false, cond, eqb, List, [], ◌∷◌, ◌++◌, length, map, Option, refl, sym, ap, ◌∙◌, subst, arith, append_assoc, length-append, eqb-true}
 use Rattle.std.proofs.lemmas.List.{append-nil}
-use Rattle.std.specs.Prelude.{⊤, ◌||◌, option_map}
+use Rattle.std.specs.Prelude.{⊤, ◌||◌}
 use Rattle.std.specs.List.{AllByRecursion, flat_map}
+use Rattle.base.proofs.EachLemmas.{each_joined}
 use Rattle.http_rules.specs.declared.template.Segment.{Segment}
 use Rattle.http_rules.specs.declared.template.Segment.TheVariants.{Literal, One, Rest}
 use Rattle.http_rules.specs.declared.template.Variable.{Variable}
 use Rattle.http_rules.specs.declared.template.Template.{Template}
-use Rattle.http_rules.specs.declared.place.Kind.{Kind}
-use Rattle.http_rules.specs.declared.place.Kind.TheVariants.{Letter, Digit, Dot, Equals, Mark}
-use Rattle.http_rules.specs.declared.place.Class.{Class}
-use Rattle.http_rules.specs.declared.place.Class.TheVariants as class
-use Rattle.http_rules.specs.declared.place.Level.TheVariants as level
-use Rattle.http_rules.specs.declared.place.Place.{Place}
-use Rattle.http_rules.specs.declared.place.Place.TheVariants as place
-use Rattle.http_rules.specs.declared.place.Act.{Act}
-use Rattle.http_rules.specs.declared.parts.Parts.{Parts}
-use Rattle.http_rules.specs.Template.{is_digit, is_literal_byte, begins_identifier, is_identifier_byte, IsLiteral, IsIdentifier, IsFieldPath, IsSegment, AreSegments, Part, segment, variable, variable_of, IsPart, joined, segment_text, part_text, verb_text, parts_text, segments_of, variables_from, MayFollow, IsRestLast, IsVerb, IsTemplateText}
-use Rattle.http_rules.specs.TemplateMachine.{kind_of, class_of, turn, no_parts, did, kept, finish, run, read_template}
+use Rattle.http_rules.specs.declared.state.Kind.{Kind}
+use Rattle.http_rules.specs.declared.state.Kind.TheVariants.{Letter, Digit, Dot, Equals, Mark}
+use Rattle.http_rules.specs.declared.state.Class.{Class}
+use Rattle.http_rules.specs.declared.state.Class.TheVariants as class
+use Rattle.http_rules.specs.Template.{is_digit, is_literal_byte, begins_identifier, is_identifier_byte, IsLiteral, IsIdentifier, IsFieldPath, IsSegment, AreSegments, Part, segment, variable, variable_of, IsPart, joined, segment_text, part_text, verb_text, parts_text, segments_of, variables_from, MayFollow, IsRestLast, IsVerb}
+use Rattle.http_rules.specs.TemplateMachine.{kind_of, class_of}
 
 -- what a class says of a byte
 
+-- what holds of both of two cases holds of the one that a test picks
 pub choice : {X : Type 0} (P : X → Type 0) (t : Bool) (x y : X) → (t ≡ true → P x) → (t ≡ false → P y) → P (cond t x y)
 choice P true x y a b = a refl
 choice P false x y a b = b refl
 
+-- what the kind of a byte of a literal says of it
 abbrev pub KindSays : Kind → ℕ → Type 0
 KindSays Letter b = begins_identifier b ≡ true
 KindSays Digit b = is_digit b ≡ true
@@ -32,6 +30,7 @@ KindSays Dot b = b ≡ 46
 KindSays Equals b = b ≡ 61
 KindSays Mark b = ⊤
 
+-- what the class of a byte says of it
 abbrev pub ClassSays : Class → ℕ → Type 0
 ClassSays (class.Literal k) b = (is_literal_byte b ≡ true) × KindSays k b
 ClassSays class.Slash b = b ≡ 47
@@ -48,6 +47,7 @@ kind_says b =
     (λ _. choice (λ k. KindSays k b) (eqb b 46) _ _ (λ h. eqb-true b 46 h)
     (λ _. choice (λ k. KindSays k b) (eqb b 61) _ _ (λ h. eqb-true b 61 h) (λ _. tt))))
 
+-- the class of a byte says what the byte is
 pub class_says : (b : ℕ) → ClassSays (class_of b) b
 class_says b =
     choice (λ c. ClassSays c b) (is_literal_byte b) _ _ (λ h. (h, kind_says b))
@@ -59,26 +59,26 @@ class_says b =
 
 -- words
 
-pub all_push : {X : Type 0} (P : X → Type 0) (xs : List X) (y : X) → AllByRecursion P xs → P y → AllByRecursion P (xs ++ y ∷ [])
-all_push P [] y a p = (p, tt)
-all_push P (x ∷ xs) y a p = (a.0, all_push P xs y a.1 p)
-
+-- a literal with one more of its bytes is a literal
 pub literal_push : (w : List ℕ) (b : ℕ) → IsLiteral w → is_literal_byte b ≡ true → IsLiteral (w ++ b ∷ [])
 literal_push [] b h p = absurd h
-literal_push (c ∷ w) b h p = (h.0, all_push _ w b h.1 p)
+literal_push (c ∷ w) b h p = (h.0, each_joined _ w (b ∷ []) h.1 (p, tt))
 
+-- an identifier with one more of its bytes is an identifier
 pub identifier_push : (w : List ℕ) (b : ℕ) → IsIdentifier w → is_identifier_byte b ≡ true → IsIdentifier (w ++ b ∷ [])
 identifier_push [] b h p = absurd h
-identifier_push (c ∷ w) b h p = (h.0, all_push _ w b h.1 p)
+identifier_push (c ∷ w) b h p = (h.0, each_joined _ w (b ∷ []) h.1 (p, tt))
 
+-- identifiers with one more are a field path
 pub field_path_push : (xs : List (List ℕ)) (y : List ℕ) → AllByRecursion IsIdentifier xs → IsIdentifier y → IsFieldPath (xs ++ y ∷ [])
 field_path_push [] y a p = (p, tt)
-field_path_push (x ∷ xs) y a p = (a.0, all_push _ xs y a.1 p)
+field_path_push (x ∷ xs) y a p = (a.0, each_joined _ xs (y ∷ []) a.1 (p, tt))
 
 field_path_all : (xs : List (List ℕ)) → IsFieldPath xs → AllByRecursion IsIdentifier xs
 field_path_all [] h = absurd h
 field_path_all (x ∷ xs) h = h
 
+-- what begins an identifier may stand within it
 pub letter_goes_on : (b : ℕ) → begins_identifier b ≡ true → is_identifier_byte b ≡ true
 letter_goes_on b h = by_test (begins_identifier b) (is_digit b) h
   where
@@ -86,6 +86,7 @@ letter_goes_on b h = by_test (begins_identifier b) (is_digit b) h
     by_test true y e = refl
     by_test false y e = absurd (cc)
 
+-- a digit may stand within an identifier
 pub digit_goes_on : (b : ℕ) → is_digit b ≡ true → is_identifier_byte b ≡ true
 digit_goes_on b h = by_test (begins_identifier b) (is_digit b) h
   where
@@ -93,9 +94,11 @@ digit_goes_on b h = by_test (begins_identifier b) (is_digit b) h
     by_test true y e = refl
     by_test false y e = e
 
+-- a byte behind a word stands before what follows
 pub push_then : (w : List ℕ) (b : ℕ) (s : List ℕ) → (w ++ b ∷ []) ++ s ≡ w ++ b ∷ s
 push_then w b s = append_assoc w (b ∷ []) s
 
+-- a byte behind no word stands before what follows
 pub first_then : (w : List ℕ) (b : ℕ) (s : List ℕ) → w ≡ [] → (w ++ b ∷ []) ++ s ≡ b ∷ s
 first_then w b s e = push_then w b s ∙ ap (λ x. x ++ b ∷ s) e
 
@@ -104,6 +107,7 @@ abbrev pub dotted : List (List ℕ) → List ℕ
 dotted [] = []
 dotted (x ∷ xs) = x ++ 46 ∷ dotted xs
 
+-- one more name, before its dot
 pub dotted_push : (xs : List (List ℕ)) (y s : List ℕ) → dotted (xs ++ y ∷ []) ++ s ≡ dotted xs ++ (y ++ 46 ∷ s)
 dotted_push [] y s = append_assoc y (46 ∷ []) s
 dotted_push (x ∷ xs) y s =
@@ -114,6 +118,7 @@ dots_push [] y s = ap (λ l. 46 ∷ (l ++ s)) (append-nil y)
 dots_push (x ∷ xs) y s =
     ap (λ l. 46 ∷ l) (append_assoc x (flat_map (λ z. 46 ∷ z) (xs ++ y ∷ [])) s ∙ ap (λ l. x ++ l) (dots_push xs y s) ∙ sym (append_assoc x (46 ∷ dotted xs) (y ++ s)))
 
+-- one more name behind others, with dots between them
 pub joined_push : (xs : List (List ℕ)) (y s : List ℕ) → joined 46 (xs ++ y ∷ []) ++ s ≡ dotted xs ++ (y ++ s)
 joined_push [] y s = ap (λ l. l ++ s) (append-nil y)
 joined_push (x ∷ xs) y s =
@@ -131,6 +136,11 @@ pub record Follows (x : Segment) (segs : List Segment) (vars : List Variable) (s
   pub segments : t.segments ≡ segs ++ segments_of parts
   pub variables : t.variables ≡ vars ++ variables_from (length segs) parts
 
+-- the template of segments, variables and a verb
+abbrev pub made : List Segment → List Variable → Option (List ℕ) → Template
+made ss vs verb = record { segments = ss; variables = vs; verb = verb }
+
+-- a variable of this path, from one segment to another
 abbrev pub taking : List (List ℕ) → ℕ → ℕ → Variable
 taking path from to = record { path = path; from = from; to = to }
 
@@ -146,6 +156,7 @@ pub record FollowsInner (x : Segment) (segs : List Segment) (vars : List Variabl
   pub segments : t.segments ≡ segs ++ (more ++ segments_of parts)
   pub variables : t.variables ≡ vars ++ taking path from (length segs + length more) ∷ variables_from (length segs + length more) parts
 
+-- no segment may follow any segment
 pub nothing_follows : (x : Segment) (ss : List Segment) → ss ≡ [] → MayFollow x ss
 nothing_follows (Literal l) ss e = tt
 nothing_follows One ss e = tt
@@ -155,6 +166,7 @@ nothing_follows Rest ss e = e
 pub before : (x y : Segment) (segs : List Segment) (vars : List Variable) (s : List ℕ) (t : Template) → ((ss : List Segment) → MayFollow x ss → MayFollow y ss) → Follows x segs vars s t → Follows y segs vars s t
 before x y segs vars s t may h = record { parts = h.parts; each = h.each; last = (may _ h.last.0, h.last.1); verb = h.verb; text = h.text; segments = h.segments; variables = h.variables }
 
+-- another segment may stand before the same, within braces
 pub before_inner : (x y : Segment) (segs : List Segment) (vars : List Variable) (path : List (List ℕ)) (from : ℕ) (s : List ℕ) (t : Template) → ((ss : List Segment) → MayFollow x ss → MayFollow y ss) → FollowsInner x segs vars path from s t → FollowsInner y segs vars path from s t
 before_inner x y segs vars path from s t may h = record { more = h.more; parts = h.parts; each_more = h.each_more; each = h.each; last = (may _ h.last.0, h.last.1); verb = h.verb; text = h.text; segments = h.segments; variables = h.variables }
 
@@ -217,14 +229,17 @@ close_back x segs vars path from s t h =
       variables = h.variables ∙ append_assoc vars (taking path from (length segs) ∷ []) (variables_from (length segs) h.parts) ∙ ap (λ n. vars ++ taking path from n ∷ variables_from n h.parts) count;
     }
 
-abbrev behind : List ℕ → List ℕ
+-- the bytes behind the first
+abbrev pub behind : List ℕ → List ℕ
 behind [] = []
 behind (b ∷ s) = s
 
+-- the first byte, or 0
 abbrev pub first_byte : List ℕ → ℕ
 first_byte [] = 0
 first_byte (b ∷ s) = b
 
+-- each segment behind a slash is the text of each behind a slash
 pub slashed_texts : (zs : List Segment) → flat_map (λ z. 47 ∷ segment_text z) zs ≡ flat_map (λ z. 47 ∷ z) (map segment_text zs)
 slashed_texts [] = refl
 slashed_texts (z ∷ zs) = ap (λ l. 47 ∷ (segment_text z ++ l)) (slashed_texts zs)

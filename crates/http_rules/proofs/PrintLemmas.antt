@@ -7,10 +7,10 @@ use Rattle.http_rules.specs.declared.template.Segment.{Segment}
 use Rattle.http_rules.specs.declared.template.Segment.TheVariants.{One}
 use Rattle.http_rules.specs.declared.template.Variable.{Variable}
 use Rattle.http_rules.specs.declared.template.Template.{Template}
-use Rattle.http_rules.specs.Template.{Part, segment, variable, variable_of, IsPart, segments_of, variables_from, joined, segment_text, part_text, parts_text, IsRestLast, IsTemplateText, IsTemplate, AreRanges}
+use Rattle.http_rules.specs.Template.{Part, segment, variable, variable_of, IsPart, segments_of, variables_from, variable_at, joined, segment_text, part_text, parts_text, IsRestLast, IsTemplateText, IsTemplate, AreRanges}
 use Rattle.http_rules.specs.TemplateText.{printed_parts, template_text, slashed_parts, slashed_segments, text_through}
 use Rattle.http_rules.proofs.RangeLemmas.{ranges_from, above}
-use Rattle.http_rules.proofs.PartLemmas.{slashed_texts}
+use Rattle.http_rules.proofs.PartLemmas.{made, slashed_texts}
 
 -- a part with its segments spelled out
 abbrev spelled_out : Part → Part
@@ -34,11 +34,8 @@ printed_segment n s ss (v ∷ vs) high h =
     ∙ ap (λ z. segment s ∷ (map segment (take (v.from - (n + 1)) ss) ++ variable_of v.path (take (v.to - v.from) z) ∷ printed_parts v.to (drop (v.to - n) (s ∷ ss)) vs)) (drop_less n v.from s ss from)
     ∙ ap (λ z. segment s ∷ (map segment (take (v.from - (n + 1)) ss) ++ variable_of v.path (take (v.to - v.from) (drop (v.from - (n + 1)) ss)) ∷ printed_parts v.to z vs)) (drop_less n v.to s ss to)
 
-abbrev taking : List (List ℕ) → ℕ → ℕ → Variable
-taking path from count = record { path = path; from = from; to = from + count }
-
 -- a variable is printed with its segments
-printed_variable : (n : ℕ) (path : List (List ℕ)) (ss more : List Segment) (vs : List Variable) → printed_parts n (ss ++ more) (taking path n (length ss) ∷ vs) ≡ variable_of path ss ∷ printed_parts (n + length ss) more vs
+printed_variable : (n : ℕ) (path : List (List ℕ)) (ss more : List Segment) (vs : List Variable) → printed_parts n (ss ++ more) (variable_at path n (length ss) ∷ vs) ≡ variable_of path ss ∷ printed_parts (n + length ss) more vs
 printed_variable n path ss more vs =
     let none : n - n ≡ 0 = omega arith in
     let count : n + length ss - n ≡ length ss = omega arith in
@@ -72,12 +69,10 @@ spelled_segments (variable_of path ss ∷ ps) = ap (λ z. ss ++ z) (spelled_segm
 spelled_variables : (n : ℕ) (ps : List Part) → variables_from n (map spelled_out ps) ≡ variables_from n ps
 spelled_variables n [] = refl
 spelled_variables n (segment s ∷ ps) = spelled_variables (n + 1) ps
-spelled_variables n (variable path ∷ ps) = ap (λ z. taking path n 1 ∷ z) (spelled_variables (n + 1) ps)
-spelled_variables n (variable_of path ss ∷ ps) = ap (λ z. taking path n (length ss) ∷ z) (spelled_variables (n + length ss) ps)
+spelled_variables n (variable path ∷ ps) = ap (λ z. variable_at path n 1 ∷ z) (spelled_variables (n + 1) ps)
+spelled_variables n (variable_of path ss ∷ ps) = ap (λ z. variable_at path n (length ss) ∷ z) (spelled_variables (n + length ss) ps)
 
-abbrev made : List Segment → List Variable → Template → Template
-made ss vs t = record { segments = ss; variables = vs; verb = t.verb }
-
+-- what is printed of a template means the same template
 pub printed_means : (t : Template) → IsTemplate t → IsTemplateText (template_text t) t
 printed_means t h =
     let ps = h.means.first ∷ h.means.more in
@@ -92,11 +87,12 @@ printed_means t h =
       written = ap (λ z. parts_text (printed_parts 0 z t.variables) t.verb) ss
           ∙ ap (λ z. parts_text (printed_parts 0 (segments_of ps) z) t.verb) vs
           ∙ ap (λ z. parts_text z t.verb) (printed_again 0 ps h.means.each);
-      means = ap (λ z. made z t.variables t) (ss ∙ sym (spelled_segments ps)) ∙ ap (λ z. made (segments_of (map spelled_out ps)) z t) (vs ∙ sym (spelled_variables 0 ps));
+      means = ap (λ z. made z t.variables t.verb) (ss ∙ sym (spelled_segments ps)) ∙ ap (λ z. made (segments_of (map spelled_out ps)) z t.verb) (vs ∙ sym (spelled_variables 0 ps));
     }
 
 -- the steps of printing
 
+-- the first segment, and then each other behind a slash, are all with slashes between them
 pub segments_put : (old mid new : List ℕ) (ss : List Segment) (x : Segment) → 1 ≤ length ss → x ≡ get_or ss 0 x → mid ≡ old ++ segment_text x → new ≡ mid ++ slashed_segments (take (length ss - 1) (drop 1 ss)) → new ≡ old ++ joined 47 (map segment_text ss)
 segments_put old mid new [] x h e m n = absurd (omega (arith, h))
 segments_put old mid new (y ∷ ys) x h e m n =
@@ -110,6 +106,7 @@ slashed_as_parts (s ∷ ss) = ap (λ z. 47 ∷ (segment_text s ++ z)) (slashed_a
 drop_on : {X : Type 0} (m n : ℕ) (xs : List X) → m ≤ n → drop (n - m) (drop m xs) ≡ drop n xs
 drop_on m n xs h = let e : m + (n - m) ≡ n = omega arith in drop-drop (n - m) m xs ∙ ap (λ k. drop k xs) e
 
+-- the text of parts is that up to the next variable, and the text of the parts behind it
 pub text_step : (ss : List Segment) (from : ℕ) (v : Variable) (vs : List Variable) (high : ℕ) → AreRanges from (v ∷ vs) high
     → slashed_parts (printed_parts from (drop from ss) (v ∷ vs)) ≡ text_through ss from v ++ slashed_parts (printed_parts v.to (drop v.to ss) vs)
 text_step ss from v vs high r =
@@ -128,9 +125,11 @@ next_ranges vs i v from high h e r =
     let next : suc i ≡ i + 1 = omega arith in
     subst (λ z. AreRanges from z high) (drop-cons vs i v h ∙ ap (λ z. z ∷ drop (suc i) vs) (sym e) ∙ ap (λ k. v ∷ drop k vs) next) r
 
+-- the next variable ends within the segments
 pub next_within : (vs : List Variable) (i : ℕ) (v : Variable) (from high : ℕ) → i < length vs → v ≡ get_or vs i v → AreRanges from (drop i vs) high → v.to ≤ high
 next_within vs i v from high h e r = above v.to (drop (i + 1) vs) high (next_ranges vs i v from high h e r).2
 
+-- what is put up to the next variable leaves the text of the parts behind it
 pub next_put : (ss : List Segment) (vs : List Variable) (i : ℕ) (v : Variable) (from : ℕ) (mid new all : List ℕ) → i < length vs → v ≡ get_or vs i v → AreRanges from (drop i vs) (length ss)
     → mid ++ slashed_parts (printed_parts from (drop from ss) (drop i vs)) ≡ all → new ≡ mid ++ text_through ss from v → new ++ slashed_parts (printed_parts v.to (drop v.to ss) (drop (i + 1) vs)) ≡ all
 next_put ss vs i v from mid new all h e r before put =
@@ -142,6 +141,7 @@ next_put ss vs i v from mid new all h e r before put =
     ∙ ap (λ z. mid ++ slashed_parts (printed_parts from (drop from ss) z)) (sym these)
     ∙ before
 
+-- with no variable left, the segments that are left end the text
 pub last_put : (ss : List Segment) (vs : List Variable) (i from : ℕ) (mid all : List ℕ) → length vs ≤ i → mid ++ slashed_parts (printed_parts from (drop from ss) (drop i vs)) ≡ all → mid ++ slashed_segments (take (length ss - from) (drop from ss)) ≡ all
 last_put ss vs i from mid all h before =
     ap (λ z. mid ++ slashed_segments z) (take_rest ss from)

@@ -1,78 +1,80 @@
 -- A template fits a path in one way, and its spans lie inside the path.
-use Rattle.std.proofs.Common.{◌≡◌, ◌≢◌, ◌<◌, ◌≤◌, ℕ, ◌+◌, ◌-◌, Bool, true, false, List, [], ◌∷◌, ◌++◌, length, map, take, drop, Option, Some, None, refl, sym, ap, ◌∙◌, subst, arith, append_assoc, length-append}
+use Rattle.std.proofs.Common.{◌≡◌, ◌≢◌, ◌≤◌, ℕ, ◌+◌, ◌-◌, true, List, [], ◌∷◌, ◌++◌, length, map, take, drop, refl, sym, ap, ◌∙◌, subst, arith, append_assoc, length-append}
 use Rattle.std.proofs.lemmas.List.{append-nil, append_cancel_right, take-append-drop, length-map}
 use Rattle.std.proofs.lemmas.List.Concat.{flat_map-append}
 use Rattle.std.specs.Prelude.{IsTrue}
-use Rattle.std.specs.List.{AllByRecursion, flat_map}
+use Rattle.std.specs.List.{AllByRecursion}
+use Rattle.base.proofs.EachLemmas.{each_always, each_joined, each_mapped, each_weaker}
 use Rattle.http_rules.specs.declared.template.Segment.{Segment}
 use Rattle.http_rules.specs.declared.template.Segment.TheVariants.{Literal, One, Rest}
 use Rattle.http_rules.specs.declared.template.Variable.{Variable}
 use Rattle.http_rules.specs.declared.template.Template.{Template}
-use Rattle.http_rules.specs.Template.{is_literal_byte, IsLiteral, IsSegment, AreSegments, Part, segment, variable, variable_of, IsPart, segments_of, MayFollow, IsRestLast, verb_text, IsTemplate}
+use Rattle.http_rules.specs.Template.{is_literal_byte, IsLiteral, IsSegment, AreSegments, Part, segment, variable, variable_of, IsPart, segments_of, MayFollow, IsRestLast, verb_text, IsTemplate, IsTemplateText}
+use Rattle.http_rules.proofs.PartLemmas.{behind}
 use Rattle.http_rules.specs.TemplateMatch.{slashed, IsPathSegment, Takes, EachTakes, shares, span_between, span_of, Matches, AreSpansOf}
 
--- a segment of a path has no slash
-abbrev NoSlash : List ℕ → Type 0
+-- no byte is a slash
+abbrev pub NoSlash : List ℕ → Type 0
 NoSlash s = AllByRecursion (λ b. b ≢ 47) s
 
+-- bytes that may stand in a literal are no slashes
 pub literal_no_slash : (l : List ℕ) → AllByRecursion (λ b. IsTrue (is_literal_byte b)) l → NoSlash l
-literal_no_slash [] h = tt
-literal_no_slash (b ∷ l) h = ((λ e. let slash : is_literal_byte 47 ≡ true = subst (λ n. is_literal_byte n ≡ true) e h.0 in absurd (cc (slash))), literal_no_slash l h.1)
+literal_no_slash l h =
+    each_weaker (λ b. IsTrue (is_literal_byte b)) (λ b. b ≢ 47)
+    (λ b p e. let slash : is_literal_byte 47 ≡ true = subst (λ n. is_literal_byte n ≡ true) e p in absurd (cc (slash))) l h
 
+-- each byte of a literal may stand in one
 pub literal_all : (l : List ℕ) → IsLiteral l → AllByRecursion (λ b. IsTrue (is_literal_byte b)) l
 literal_all [] h = absurd h
 literal_all (b ∷ l) h = h
 
-all_append : {X : Type 0} (P : X → Type 0) (xs ys : List X) → AllByRecursion P xs → AllByRecursion P ys → AllByRecursion P (xs ++ ys)
-all_append P [] ys a b = b
-all_append P (x ∷ xs) ys a b = (a.0, all_append P xs ys a.1 b)
-
-all_path : (xs : List (List ℕ)) → AllByRecursion IsPathSegment xs → AllByRecursion NoSlash xs
-all_path [] a = tt
-all_path (x ∷ xs) a = (a.0.1, all_path xs a.1)
-
 share_no_slash : (s : Segment) (x : List (List ℕ)) → IsSegment s → Takes s x → AllByRecursion NoSlash x
 share_no_slash (Literal l) x is h = subst (AllByRecursion NoSlash) (sym h) (literal_no_slash l (literal_all l is), tt)
 share_no_slash One x is h = subst (AllByRecursion NoSlash) (sym h.2) (h.1.1, tt)
-share_no_slash Rest x is h = all_path x h
+share_no_slash Rest x is h = each_weaker IsPathSegment NoSlash (λ s p. p.1) x h
 
 shares_no_slash : (ss : List Segment) (taken : List (List (List ℕ))) → AllByRecursion IsSegment ss → EachTakes ss taken → AllByRecursion NoSlash (shares taken)
 shares_no_slash [] [] a h = tt
 shares_no_slash [] (x ∷ xs) a h = absurd h
 shares_no_slash (s ∷ ss) [] a h = absurd h
-shares_no_slash (s ∷ ss) (x ∷ xs) a h = all_append NoSlash x (shares xs) (share_no_slash s x a.0 h.0) (shares_no_slash ss xs a.1 h.1)
+shares_no_slash (s ∷ ss) (x ∷ xs) a h = each_joined NoSlash x (shares xs) (share_no_slash s x a.0 h.0) (shares_no_slash ss xs a.1 h.1)
 
 segments_all : (ss : List Segment) → AreSegments ss → AllByRecursion IsSegment ss
 segments_all [] h = absurd h
 segments_all (s ∷ ss) h = h
 
+-- the segments of parts are literals and wildcards
 pub parts_segments : (ps : List Part) → AllByRecursion IsPart ps → AllByRecursion IsSegment (segments_of ps)
 parts_segments [] a = tt
 parts_segments (segment s ∷ ps) a = (a.0, parts_segments ps a.1)
 parts_segments (variable path ∷ ps) a = (tt, parts_segments ps a.1)
-parts_segments (variable_of path ss ∷ ps) a = all_append IsSegment ss (segments_of ps) (segments_all ss a.0.1) (parts_segments ps a.1)
+parts_segments (variable_of path ss ∷ ps) a = each_joined IsSegment ss (segments_of ps) (segments_all ss a.0.1) (parts_segments ps a.1)
+
+-- the segments of a template are literals and wildcards
+pub segments_lawful : (text : List ℕ) (t : Template) → IsTemplateText text t → AllByRecursion IsSegment t.segments
+segments_lawful text t h =
+    let parts = h.first ∷ h.more in
+    let ss : segments_of parts ≡ t.segments = sym (ap (λ (x : Template). x.segments) h.means) in
+    subst (AllByRecursion IsSegment) ss (parts_segments parts h.each)
 
 -- segments end at their slashes
 
-abbrev first_byte : List ℕ → ℕ
-first_byte [] = 47
-first_byte (b ∷ s) = b
+-- the first byte, or a slash
+abbrev first_or_slash : List ℕ → ℕ
+first_or_slash [] = 47
+first_or_slash (b ∷ s) = b
 
-starts : (ss : List (List ℕ)) → first_byte (slashed ss) ≡ 47
+starts : (ss : List (List ℕ)) → first_or_slash (slashed ss) ≡ 47
 starts [] = refl
 starts (s ∷ ss) = refl
 
-abbrev behind : List ℕ → List ℕ
-behind [] = []
-behind (b ∷ s) = s
-
 word_split : (s t : List ℕ) (ss ts : List (List ℕ)) → NoSlash s → NoSlash t → s ++ slashed ss ≡ t ++ slashed ts → (s ≡ t) × (slashed ss ≡ slashed ts)
 word_split [] [] ss ts a b e = (refl, e)
-word_split [] (c ∷ t) ss ts a b e = absurd (b.0 (sym (ap first_byte e) ∙ starts ss))
-word_split (c ∷ s) [] ss ts a b e = absurd (a.0 (ap first_byte e ∙ starts ts))
+word_split [] (c ∷ t) ss ts a b e = absurd (b.0 (sym (ap first_or_slash e) ∙ starts ss))
+word_split (c ∷ s) [] ss ts a b e = absurd (a.0 (ap first_or_slash e ∙ starts ts))
 word_split (c ∷ s) (d ∷ t) ss ts a b e =
     let r = word_split s t ss ts a.1 b.1 (ap behind e) in
-    let heads : c ≡ d = ap first_byte e in
+    let heads : c ≡ d = ap first_or_slash e in
     (ap (λ z. z ∷ s) heads ∙ ap (λ z. d ∷ z) r.0, r.1)
 
 one_split : (ss ts : List (List ℕ)) → AllByRecursion NoSlash ss → AllByRecursion NoSlash ts → slashed ss ≡ slashed ts → ss ≡ ts
@@ -85,10 +87,12 @@ one_split (s ∷ ss) (t ∷ ts) a b e =
 
 -- the shares of segments are told by all that is taken
 
+-- the texts behind the first
 abbrev tail_of : List (List ℕ) → List (List ℕ)
 tail_of [] = []
 tail_of (x ∷ xs) = xs
 
+-- the first text, or none
 abbrev head_of : List (List ℕ) → List ℕ
 head_of [] = []
 head_of (x ∷ xs) = x
@@ -126,7 +130,7 @@ pub one_fit : (t : Template) (path : List ℕ) (a b : List (ℕ × ℕ)) → IsT
 one_fit t path a b is m n =
     let parts = is.means.first ∷ is.means.more in
     let ss : segments_of parts ≡ t.segments = sym (ap (λ (x : Template). x.segments) is.means.means) in
-    let all = subst (AllByRecursion IsSegment) ss (parts_segments parts is.means.each) in
+    let all = segments_lawful is.text t is.means in
     let rest = subst IsRestLast ss is.means.rest_last in
     let texts : slashed (shares m.taken) ≡ slashed (shares n.taken) = append_cancel_right (slashed (shares m.taken)) (slashed (shares n.taken)) (verb_text t.verb) (sym m.written ∙ n.written) in
     let same = one_split (shares m.taken) (shares n.taken) (shares_no_slash t.segments m.taken all m.each) (shares_no_slash t.segments n.taken all n.each) texts in
@@ -148,6 +152,7 @@ shares_cut k n taken =
     ∙ ap (λ z. shares (take k taken) ++ z) (shares_append (take n (drop k taken)) (drop n (drop k taken)))
     ∙ sym (append_assoc (shares (take k taken)) (shares (take n (drop k taken))) (shares (drop n (drop k taken))))
 
+-- a span goes from an offset to one that is not below it and within the bound
 abbrev IsInside : ℕ → ℕ × ℕ → Type 0
 IsInside end span = (span.0 ≤ span.1) × (span.1 ≤ end)
 
@@ -167,8 +172,9 @@ longer : (low high : ℕ) (span : ℕ × ℕ) → low ≤ high → IsInside low 
 longer low high span h i = (i.0, omega (arith, h, i.1))
 
 all_inside : (taken : List (List (List ℕ))) (end : ℕ) → length (slashed (shares taken)) ≤ end → (vs : List Variable) → AllByRecursion (IsInside end) (map (span_of taken) vs)
-all_inside taken end h [] = tt
-all_inside taken end h (v ∷ vs) = (longer (length (slashed (shares taken))) end (span_of taken v) h (span_inside taken v), all_inside taken end h vs)
+all_inside taken end h vs =
+    each_mapped (span_of taken) (IsInside end) vs
+    (each_always (λ v. IsInside end (span_of taken v)) (λ v. longer (length (slashed (shares taken))) end (span_of taken v) h (span_inside taken v)) vs)
 
 -- one span for each variable, inside the path
 pub spans_inside : (t : Template) (path : List ℕ) (spans : List (ℕ × ℕ)) → Matches t path spans → AreSpansOf t path spans

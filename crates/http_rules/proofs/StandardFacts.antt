@@ -1,20 +1,18 @@
 -- Worked examples of the definitions, computed.
-use Rattle.std.specs.Prelude.{◌≡◌, ℕ, List, [], ◌∷◌, codes, Option, Some, None, refl}
+use Rattle.std.specs.Prelude.{◌≡◌, ℕ, List, [], ◌∷◌, codes, Some, None, refl}
 use Rattle.std.proofs.Common.{lit<}
 use Rattle.percent_encoding.specs.Percent.{percent_decode}
-use Rattle.http_rules.specs.declared.template.Segment.{Segment}
 use Rattle.http_rules.specs.declared.template.Segment.TheVariants.{Literal, One, Rest}
 use Rattle.http_rules.specs.declared.template.Variable.{Variable}
 use Rattle.http_rules.specs.declared.template.Template.{Template}
 use Rattle.http_rules.specs.Template.{segment, variable_of, IsTemplateText}
 use Rattle.http_rules.specs.TemplateMatch.{Matches}
 use Rattle.http_rules.specs.PercentDecoding.{decode_but_slashes, captured}
+use Rattle.http_rules.proofs.PartLemmas.{made}
 
+-- a variable of one identifier, from one segment to another
 abbrev variable_named : List ℕ → ℕ → ℕ → Variable
 variable_named name from to = record { path = name ∷ []; from = from; to = to }
-
-abbrev made : List Segment → List Variable → Option (List ℕ) → Template
-made ss vs verb = record { segments = ss; variables = vs; verb = verb }
 
 -- `/v1/{name=shelves/*}:go`
 abbrev shelves : Template

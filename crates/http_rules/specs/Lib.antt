@@ -6,3 +6,4 @@ pub mod PercentDecoding
 pub mod TemplateFaults
 pub mod TemplateMachine
 pub mod TemplateLimits
+pub mod Tokens

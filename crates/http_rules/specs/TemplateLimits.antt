@@ -2,8 +2,8 @@
 use Rattle.std.specs.Prelude.{◌≤◌, ◌<◌, ℕ, length, Result, Ok, Err, ⊤}
 use Rattle.http_rules.specs.declared.fault.TemplateFault.{TemplateFault}
 use Rattle.http_rules.specs.declared.fault.TemplateFault.TheVariants as faults
-use Rattle.http_rules.specs.declared.place.Act.{Act}
-use Rattle.http_rules.specs.declared.place.Act.TheVariants as act
+use Rattle.http_rules.specs.declared.state.Act.{Act}
+use Rattle.http_rules.specs.declared.state.Act.TheVariants as act
 use Rattle.http_rules.specs.declared.parts.Parts.{Parts}
 
 -- the parts are within the limits

@@ -4,18 +4,18 @@ use Rattle.http_rules.specs.declared.template.Segment.{Segment}
 use Rattle.http_rules.specs.declared.template.Segment.TheVariants as segments
 use Rattle.http_rules.specs.declared.template.Variable.{Variable}
 use Rattle.http_rules.specs.declared.template.Template.{Template}
-use Rattle.http_rules.specs.declared.place.Kind.{Kind}
-use Rattle.http_rules.specs.declared.place.Kind.TheVariants.{Letter, Digit, Dot, Equals, Mark}
-use Rattle.http_rules.specs.declared.place.Class.{Class}
-use Rattle.http_rules.specs.declared.place.Class.TheVariants as class
-use Rattle.http_rules.specs.declared.place.Level.{Level}
-use Rattle.http_rules.specs.declared.place.Level.TheVariants.{Outer, Inner}
-use Rattle.http_rules.specs.declared.place.Place.{Place}
-use Rattle.http_rules.specs.declared.place.Place.TheVariants as place
-use Rattle.http_rules.specs.declared.place.Shape.{Shape}
-use Rattle.http_rules.specs.declared.place.Shape.TheVariants as shape
-use Rattle.http_rules.specs.declared.place.Act.{Act}
-use Rattle.http_rules.specs.declared.place.Act.TheVariants as act
+use Rattle.http_rules.specs.declared.state.Kind.{Kind}
+use Rattle.http_rules.specs.declared.state.Kind.TheVariants.{Letter, Digit, Dot, Equals, Mark}
+use Rattle.http_rules.specs.declared.state.Class.{Class}
+use Rattle.http_rules.specs.declared.state.Class.TheVariants as class
+use Rattle.http_rules.specs.declared.state.Level.{Level}
+use Rattle.http_rules.specs.declared.state.Level.TheVariants.{Outer, Inner}
+use Rattle.http_rules.specs.declared.state.State.{State}
+use Rattle.http_rules.specs.declared.state.State.TheVariants as state
+use Rattle.http_rules.specs.declared.state.Shape.{Shape}
+use Rattle.http_rules.specs.declared.state.Shape.TheVariants as shape
+use Rattle.http_rules.specs.declared.state.Act.{Act}
+use Rattle.http_rules.specs.declared.state.Act.TheVariants as act
 use Rattle.http_rules.specs.declared.parts.Parts.{Parts}
 use Rattle.http_rules.specs.Template.{is_digit, is_literal_byte, begins_identifier}
 
@@ -42,74 +42,75 @@ sign_of b =
 abbrev pub class_of : ℕ → Class
 class_of b = if is_literal_byte b then class.Literal (kind_of b) else sign_of b
 
-abbrev pub goes : Place → Act → Option (Place × Act)
+-- a byte leads to this state and does this
+abbrev pub goes : State → Act → Option (State × Act)
 goes p a = Some (p, a)
 
 -- a segment of this shape ends by the byte
-abbrev pub ended : Level → Shape → Class → Option (Place × Act)
-ended Outer x class.Slash = goes (place.Segment Outer) (act.EndSegment x)
-ended Outer x class.Colon = goes place.Colon (act.EndSegment x)
+abbrev pub ended : Level → Shape → Class → Option (State × Act)
+ended Outer x class.Slash = goes (state.Segment Outer) (act.EndSegment x)
+ended Outer x class.Colon = goes state.Colon (act.EndSegment x)
 ended Outer x c = None
-ended Inner x class.Slash = goes (place.Segment Inner) (act.EndSegment x)
-ended Inner x class.Close = goes place.Closed (act.CloseRange x)
+ended Inner x class.Slash = goes (state.Segment Inner) (act.EndSegment x)
+ended Inner x class.Close = goes state.Closed (act.CloseRange x)
 ended Inner x c = None
 
 -- where a byte leads and what it does
-abbrev pub turn : Place → Class → Option (Place × Act)
-turn place.Start class.Slash = goes (place.Segment Outer) act.Skip
-turn place.Start c = None
-turn (place.Segment l) class.Star = goes (place.Star l) act.Skip
-turn (place.Segment l) (class.Literal k) = goes (place.Literal l) act.Keep
-turn (place.Segment Outer) class.Open = goes place.Name act.Skip
-turn (place.Segment l) c = None
-turn (place.Star l) class.Star = goes (place.Stars l) act.Skip
-turn (place.Star l) c = ended l shape.One c
-turn (place.Stars Outer) class.Colon = goes place.Colon (act.EndSegment shape.Rest)
-turn (place.Stars Inner) class.Close = goes place.ClosedRest (act.CloseRange shape.Rest)
-turn (place.Stars l) c = None
-turn (place.Literal l) (class.Literal k) = goes (place.Literal l) act.Keep
-turn (place.Literal l) c = ended l shape.Literal c
-turn place.Name (class.Literal Letter) = goes place.Path act.Keep
-turn place.Name c = None
-turn place.Path (class.Literal Letter) = goes place.Path act.Keep
-turn place.Path (class.Literal Digit) = goes place.Path act.Keep
-turn place.Path (class.Literal Dot) = goes place.Name act.EndName
-turn place.Path (class.Literal Equals) = goes (place.Segment Inner) act.OpenRange
-turn place.Path class.Close = goes place.Closed act.CloseBare
-turn place.Path c = None
-turn place.Closed class.Slash = goes (place.Segment Outer) act.Skip
-turn place.Closed class.Colon = goes place.Colon act.Skip
-turn place.Closed c = None
-turn place.ClosedRest class.Colon = goes place.Colon act.Skip
-turn place.ClosedRest c = None
-turn place.Colon (class.Literal k) = goes place.Verb act.Keep
-turn place.Colon c = None
-turn place.Verb (class.Literal k) = goes place.Verb act.Keep
-turn place.Verb c = None
+abbrev pub turn : State → Class → Option (State × Act)
+turn state.Start class.Slash = goes (state.Segment Outer) act.Skip
+turn state.Start c = None
+turn (state.Segment l) class.Star = goes (state.Star l) act.Skip
+turn (state.Segment l) (class.Literal k) = goes (state.Literal l) act.Keep
+turn (state.Segment Outer) class.Open = goes state.Name act.Skip
+turn (state.Segment l) c = None
+turn (state.Star l) class.Star = goes (state.Stars l) act.Skip
+turn (state.Star l) c = ended l shape.One c
+turn (state.Stars Outer) class.Colon = goes state.Colon (act.EndSegment shape.Rest)
+turn (state.Stars Inner) class.Close = goes state.ClosedRest (act.CloseRange shape.Rest)
+turn (state.Stars l) c = None
+turn (state.Literal l) (class.Literal k) = goes (state.Literal l) act.Keep
+turn (state.Literal l) c = ended l shape.Literal c
+turn state.Name (class.Literal Letter) = goes state.Path act.Keep
+turn state.Name c = None
+turn state.Path (class.Literal Letter) = goes state.Path act.Keep
+turn state.Path (class.Literal Digit) = goes state.Path act.Keep
+turn state.Path (class.Literal Dot) = goes state.Name act.EndName
+turn state.Path (class.Literal Equals) = goes (state.Segment Inner) act.OpenRange
+turn state.Path class.Close = goes state.Closed act.CloseBare
+turn state.Path c = None
+turn state.Closed class.Slash = goes (state.Segment Outer) act.Skip
+turn state.Closed class.Colon = goes state.Colon act.Skip
+turn state.Closed c = None
+turn state.ClosedRest class.Colon = goes state.Colon act.Skip
+turn state.ClosedRest c = None
+turn state.Colon (class.Literal k) = goes state.Verb act.Keep
+turn state.Colon c = None
+turn state.Verb (class.Literal k) = goes state.Verb act.Keep
+turn state.Verb c = None
 
 -- a template may end there
-abbrev pub is_final : Place → Bool
-is_final place.Start = false
-is_final (place.Segment l) = false
-is_final (place.Star Outer) = true
-is_final (place.Star Inner) = false
-is_final (place.Stars Outer) = true
-is_final (place.Stars Inner) = false
-is_final (place.Literal Outer) = true
-is_final (place.Literal Inner) = false
-is_final place.Name = false
-is_final place.Path = false
-is_final place.Closed = true
-is_final place.ClosedRest = true
-is_final place.Colon = false
-is_final place.Verb = true
+abbrev pub is_final : State → Bool
+is_final state.Start = false
+is_final (state.Segment l) = false
+is_final (state.Star Outer) = true
+is_final (state.Star Inner) = false
+is_final (state.Stars Outer) = true
+is_final (state.Stars Inner) = false
+is_final (state.Literal Outer) = true
+is_final (state.Literal Inner) = false
+is_final state.Name = false
+is_final state.Path = false
+is_final state.Closed = true
+is_final state.ClosedRest = true
+is_final state.Colon = false
+is_final state.Verb = true
 
--- the place after a byte
-abbrev pub after : Place → ℕ → Option Place
+-- the state after a byte
+abbrev pub after : State → ℕ → Option State
 after p b = option_map (λ x. x.0) (turn p (class_of b))
 
--- the place after bytes
-abbrev pub reach : Option Place → List ℕ → Option Place
+-- the state after bytes
+abbrev pub reach : Option State → List ℕ → Option State
 reach None s = None
 reach (Some p) [] = Some p
 reach (Some p) (b ∷ s) = reach (after p b) s
@@ -155,7 +156,7 @@ did (act.EndSegment x) b m = with_segment (shaped x m.word) m
 did (act.CloseRange x) b m = with_variable (with_segment (shaped x m.word) m)
 
 -- so it does where it leads somewhere
-abbrev pub kept : Option (Place × Act) → ℕ → Parts → Parts
+abbrev pub kept : Option (State × Act) → ℕ → Parts → Parts
 kept None b m = m
 kept (Some x) b m = did x.1 b m
 
@@ -164,28 +165,28 @@ abbrev pub built : Parts → Option (List ℕ) → Template
 built m verb = record { segments = m.segments; variables = m.variables; verb = verb }
 
 -- the template where the text ends there
-abbrev pub finish : Place → Parts → Option Template
-finish place.Start m = None
-finish (place.Segment l) m = None
-finish (place.Star Outer) m = Some (built (with_segment segments.One m) None)
-finish (place.Star Inner) m = None
-finish (place.Stars Outer) m = Some (built (with_segment segments.Rest m) None)
-finish (place.Stars Inner) m = None
-finish (place.Literal Outer) m = Some (built (with_segment (segments.Literal m.word) m) None)
-finish (place.Literal Inner) m = None
-finish place.Name m = None
-finish place.Path m = None
-finish place.Closed m = Some (built m None)
-finish place.ClosedRest m = Some (built m None)
-finish place.Colon m = None
-finish place.Verb m = Some (built m (Some m.word))
+abbrev pub finish : State → Parts → Option Template
+finish state.Start m = None
+finish (state.Segment l) m = None
+finish (state.Star Outer) m = Some (built (with_segment segments.One m) None)
+finish (state.Star Inner) m = None
+finish (state.Stars Outer) m = Some (built (with_segment segments.Rest m) None)
+finish (state.Stars Inner) m = None
+finish (state.Literal Outer) m = Some (built (with_segment (segments.Literal m.word) m) None)
+finish (state.Literal Inner) m = None
+finish state.Name m = None
+finish state.Path m = None
+finish state.Closed m = Some (built m None)
+finish state.ClosedRest m = Some (built m None)
+finish state.Colon m = None
+finish state.Verb m = Some (built m (Some m.word))
 
 -- the template that the bytes complete, if they do
-abbrev pub run : Option Place → Parts → List ℕ → Option Template
+abbrev pub run : Option State → Parts → List ℕ → Option Template
 run None m s = None
 run (Some p) m [] = finish p m
 run (Some p) m (b ∷ s) = run (after p b) (kept (turn p (class_of b)) b m) s
 
 -- the template of a text, if it is one
 abbrev pub read_template : List ℕ → Option Template
-read_template text = run (Some place.Start) no_parts text
+read_template text = run (Some state.Start) no_parts text

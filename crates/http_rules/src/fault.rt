@@ -1,6 +1,6 @@
 //! Why a text is no template.
 
-use schema::NoMemory;
+use base::NoMemory;
 use std::alloc::{AllocError, AllocFailed};
 use std::error::Error;
 use std::fmt;

@@ -1,8 +1,10 @@
 //! Laws of the definitions that the calls' contracts cite. Each is the contract of an empty function.
-ghost use Rattle.std.specs.Prelude.{◌≡◌, ◌≢◌, ◌≤◌, ◌↔◌, ℕ, List, [], ◌∷◌, ◌++◌, length, take, slice_get, Some};
+ghost use Rattle.std.specs.Prelude.{◌≡◌, ◌≢◌, ◌<◌, ◌≤◌, ◌↔◌, ℕ, List, [], ◌∷◌, ◌++◌, length, take, get_or, slice_get, Some};
+ghost use Rattle.std.specs.List.{AllByRecursion};
 ghost use Rattle.http_rules.specs.declared.template.Template.{Template};
+ghost use Rattle.http_rules.specs.declared.template.Variable.{Variable};
 ghost use Rattle.http_rules.specs.declared.template.Segment.TheVariants.{Literal};
-ghost use Rattle.http_rules.specs.Template.{IsTemplateText, IsTemplate, AreRanges, verb_text};
+ghost use Rattle.http_rules.specs.Template.{IsLiteral, IsSegment, IsTemplateText, IsTemplate, AreRanges, verb_text};
 ghost use Rattle.http_rules.specs.TemplatePrefix.{BeginsTemplate, IsSyntaxFault};
 ghost use Rattle.http_rules.specs.TemplateText.{template_text, slashed_segments};
 ghost use Rattle.http_rules.specs.TemplateMatch.{IsPath, AreLiterals, Matches, AreSpansOf, Fits};
@@ -20,6 +22,23 @@ pub fn printed_means_the_same()
 /// The ranges of a template's variables are not empty, follow one another, and lie within its segments.
 pub fn ranges_are_in_order()
     ensures { (t : Template) → IsTemplate t → AreRanges 0 t.variables (length t.segments) }
+{}
+
+/// A variable of a template takes one segment at least, within its segments.
+pub fn variables_take_segments()
+    ensures { (t : Template) (i : ℕ) (d : Variable) → IsTemplate t → i < length t.variables
+        → ((get_or t.variables i d).from < (get_or t.variables i d).to)
+        × ((get_or t.variables i d).to ≤ length t.segments) }
+{}
+
+/// The segments of a template are literals and wildcards.
+pub fn segments_are_lawful()
+    ensures { (text : List ℕ) (t : Template) → IsTemplateText text t → AllByRecursion IsSegment t.segments }
+{}
+
+/// No byte of a literal is a slash.
+pub fn literals_have_no_slash()
+    ensures { (l : List ℕ) → IsLiteral l → AllByRecursion (λ b. b ≢ 47) l }
 {}
 
 /// A fault is at the end of the longest prefix that begins a template.

@@ -6,24 +6,20 @@
 #![tactic(auto)]
 
 mod fault;
-mod laws;
+pub mod laws;
 mod order;
 mod parser;
 mod parts;
-mod place;
 mod printer;
+mod state;
 mod template;
-#[cfg(test)]
-mod tests;
+mod tokens;
 mod unescape;
 
 pub use fault::TemplateFault;
-pub use laws::{
-    fault_ends_longest_prefix, fits_in_one_way, literal_takes_its_bytes, literals_fit_their_text,
-    one_meaning, printed_means_the_same, ranges_are_in_order, spans_lie_inside,
-};
 pub use order::same_flat;
 pub use parser::parse_template;
 pub use printer::put_template;
 pub use template::{Binding, Body, Segment, Template, Variable};
+pub use tokens::{is_lower_case_token, is_short_token, is_token, is_token_byte};
 pub use unescape::capture;

@@ -3,7 +3,7 @@ ghost use Rattle.std.specs.Prelude.{◌≡◌, ◌↔◌, IsTrue};
 ghost use Rattle.http_rules.specs.Template.{IsSameFlat};
 
 use crate::template::{Segment, Template};
-use schema::Text;
+use base::Text;
 
 fn same_text(a: &Text, b: &Text) -> bool
     ensures { IsTrue result ↔ (a.now ≡ b.now) }

@@ -7,7 +7,7 @@ ghost use Rattle.http_rules.specs.TemplateFaults.{IsTooMany, IsUnlessNoMemory};
 
 use crate::fault::TemplateFault;
 use crate::parts::Parts;
-use crate::place::{Place, class_of, is_final, turn};
+use crate::state::{State, class_of, is_final, turn};
 use crate::template::Template;
 use std::alloc::Global;
 
@@ -15,14 +15,14 @@ use std::alloc::Global;
 fn syntax_fault(text: &[u8]) -> Option<usize>
     ensures { MatchOption result (IsSomeTemplate text.now) (IsSyntaxFault text.now) }
 {
-    let mut place = Place::Start;
+    let mut state = State::Start;
     for (i, byte) in text.iter().enumerate() {
-        match turn(place, class_of(*byte)) {
-            Some((next, _)) => place = next,
+        match turn(state, class_of(*byte)) {
+            Some((next, _)) => state = next,
             None => return Some(i),
         }
     }
-    if is_final(place) {
+    if is_final(state) {
         None
     } else {
         Some(text.len())
@@ -37,17 +37,17 @@ fn build(alloc: Global, text: &[u8]) -> Result<Template, TemplateFault>
     ensures over { RefusesOver result (IsTooMany text.now) }
 {
     let mut parts = Parts::new(alloc);
-    let mut place = Place::Start;
+    let mut state = State::Start;
     for byte in text {
-        match turn(place, class_of(*byte)) {
+        match turn(state, class_of(*byte)) {
             Some((next, act)) => {
                 parts.take(alloc, act, *byte)?;
-                place = next;
+                state = next;
             }
             None => unreachable!(),
         }
     }
-    parts.finish(alloc, place)
+    parts.finish(alloc, state)
 }
 
 /// The template of the bytes of a text.

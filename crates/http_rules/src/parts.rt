@@ -5,9 +5,9 @@ ghost use Rattle.http_rules.specs.TemplateMachine.{no_parts, shaped, named, with
 ghost use Rattle.http_rules.specs.TemplateLimits.{AreFew, RefusesOver, KeepsAscii};
 
 use crate::fault::TemplateFault;
-use crate::place::{Act, Place, Shape};
+use crate::state::{Act, Shape, State};
 use crate::template::{Segment, Template, Variable};
-use schema::{List, NoMemory, Text};
+use base::{List, NoMemory, Text};
 use std::alloc::Global;
 use std::mem;
 
@@ -19,22 +19,22 @@ const MAX_VARIABLES: usize = 16;
 
 /// What is read of a template: its whole segments and variables, and what has begun.
 #[derive(Drop)]
-pub struct Parts {
+pub(crate) struct Parts {
     /// The segments that have ended.
-    pub segments: List<Segment>,
+    pub(crate) segments: List<Segment>,
     /// The variables that have ended.
-    pub variables: List<Variable>,
+    pub(crate) variables: List<Variable>,
     /// The bytes of the literal or identifier that has begun.
-    pub word: Text,
+    pub(crate) word: Text,
     /// The names of the field path that has begun.
-    pub path: List<Text>,
+    pub(crate) path: List<Text>,
     /// The first segment of the variable that has begun.
-    pub from: u32,
+    pub(crate) from: u32,
 }
 
 impl Parts {
     /// Nothing is read. Takes no memory.
-    pub fn new(alloc: Global) -> Parts
+    pub(crate) fn new(alloc: Global) -> Parts
         ensures { result ≡ no_parts }
     {
         Parts {
@@ -103,7 +103,7 @@ impl Parts {
     }
 
     /// Does what a byte does.
-    pub fn take(&mut self, alloc: Global, act: Act, byte: u8) -> Result<(), TemplateFault>
+    pub(crate) fn take(&mut self, alloc: Global, act: Act, byte: u8) -> Result<(), TemplateFault>
         requires ascii { KeepsAscii act byte }
         requires few { AreFew self.old }
         ensures ok { OnOk result (self.new ≡ did act byte self.old) }
@@ -134,19 +134,19 @@ impl Parts {
     }
 
     /// The template, where the text ends.
-    pub fn finish(mut self, alloc: Global, place: Place) -> Result<Template, TemplateFault>
-        requires place { IsTrue (is_final place) }
+    pub(crate) fn finish(mut self, alloc: Global, state: State) -> Result<Template, TemplateFault>
+        requires state { IsTrue (is_final state) }
         requires few { AreFew self }
-        ensures ok { IfOk result (λ t. finish place self ≡ Some t) }
+        ensures ok { IfOk result (λ t. finish state self ≡ Some t) }
         ensures few { IfOk result IsWithinLimits }
-        ensures over { RefusesOver result (IfSome (finish place self) (λ t. IsWithinLimits t → ⊥)) }
+        ensures over { RefusesOver result (IfSome (finish state self) (λ t. IsWithinLimits t → ⊥)) }
     {
         let mut verb = None;
-        match place {
-            Place::Star(_) => self.end_segment(alloc, Shape::One)?,
-            Place::Stars(_) => self.end_segment(alloc, Shape::Rest)?,
-            Place::Literal(_) => self.end_segment(alloc, Shape::Literal)?,
-            Place::Verb => verb = Some(mem::replace(&mut self.word, Text::new(alloc))),
+        match state {
+            State::Star(_) => self.end_segment(alloc, Shape::One)?,
+            State::Stars(_) => self.end_segment(alloc, Shape::Rest)?,
+            State::Literal(_) => self.end_segment(alloc, Shape::Literal)?,
+            State::Verb => verb = Some(mem::replace(&mut self.word, Text::new(alloc))),
             _ => {}
         }
         Ok(Template {

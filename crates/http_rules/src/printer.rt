@@ -5,7 +5,7 @@ ghost use Rattle.http_rules.specs.Template.{IsTemplate, AreRanges, variable_of, 
 ghost use Rattle.http_rules.specs.TemplateText.{printed_parts, template_text, slashed_parts, slashed_segments, dotted_names, text_through};
 
 use crate::template::{Segment, Template, Variable};
-use schema::{NoMemory, Text};
+use base::{NoMemory, Text};
 
 fn put_segment(out: &mut Vec<u8>, segment: &Segment) -> Result<(), NoMemory>
     ensures { OnOk result (out.new.items ≡ out.old.items ++ segment_text segment.now) }

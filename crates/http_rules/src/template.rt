@@ -1,6 +1,6 @@
 //! Templates and bindings as data (google/api/http.proto, path template syntax).
 
-use schema::{List, Text};
+use base::{List, Text};
 
 /// One segment of a template.
 #[derive(Debug, Drop)]

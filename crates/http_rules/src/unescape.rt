@@ -5,8 +5,8 @@ ghost use Rattle.http_rules.specs.Template.{IsTemplate};
 ghost use Rattle.http_rules.specs.PercentDecoding.{begins_slash_escape, first_escape, decode_but_slashes, is_single, variable_segments, captured};
 
 use crate::template::{Segment, Template};
+use base::{Blob, NoMemory};
 use percent_encoding::percent_decode;
-use schema::{Blob, NoMemory};
 use std::alloc::Global;
 
 /// The text with all escapes decoded.

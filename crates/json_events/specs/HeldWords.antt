@@ -40,6 +40,7 @@ HoldsWord Exponent held = IsUtf8 held
 HoldsWord Sign held = IsUtf8 held
 HoldsWord Power held = IsUtf8 held
 
+-- what is kept where a word may have begun
 abbrev pub HoldsAt : Option WordState → List ℕ → Type 0
 HoldsAt None held = ⊤
 HoldsAt (Some l) held = HoldsWord l held

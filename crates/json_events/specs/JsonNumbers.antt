@@ -75,6 +75,7 @@ abbrev pub multiplier : ℤ → ℕ
 multiplier (pos n) = 10 ^ n
 multiplier (negsuc n) = 1
 
+-- the power of ten by which it is to be divided
 abbrev pub divisor : ℤ → ℕ
 divisor (pos n) = 1
 divisor (negsuc n) = 10 ^ suc n

@@ -36,6 +36,7 @@ IsHex4 digits = (length digits ≡ 4) × AllDigits 16 digits
 abbrev pub is_high_surrogate : ℕ → Bool
 is_high_surrogate unit = nat_le 55296 unit && nat_le unit 56319
 
+-- the second half of a surrogate pair
 abbrev pub is_low_surrogate : ℕ → Bool
 is_low_surrogate unit = nat_le 56320 unit && nat_le unit 57343
 

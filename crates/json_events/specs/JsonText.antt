@@ -12,6 +12,7 @@ use Rattle.json_events.specs.JsonTree.{Json, Mark, opens, closes, comma, colon, 
 abbrev pub is_blank : ℕ → Bool
 is_blank b = b == 32 || (b == 9 || (b == 10 || b == 13))
 
+-- the bytes are white space alone
 abbrev pub IsBlank : List ℕ → Type 0
 IsBlank s = IsTrue (list_all is_blank s)
 
@@ -35,6 +36,7 @@ IsWord (text s) w = IsString s w
 IsWord (digits s) w = (w ≡ s) × IsNumber s
 IsWord (name n) w = w ≡ spelling n
 
+-- some bytes spell the mark
 abbrev pub HasWord : Mark → Type 0
 HasWord m = (w : List ℕ) × IsWord m w
 

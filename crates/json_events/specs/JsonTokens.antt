@@ -31,9 +31,11 @@ EndsPast n (text s) to = n < to
 EndsPast n (digits s) to = n ≤ to
 EndsPast n (name s) to = n < to
 
+-- the token has not ended within the first bytes, so many
 abbrev pub HasNotEnded : ℕ → Span → Type 0
 HasNotEnded n t = EndsPast n t.mark t.to
 
+-- the token has ended within the first bytes, so many
 abbrev pub HasEnded : ℕ → Span → Type 0
 HasEnded n t = HasNotEnded n t → ⊥
 
@@ -53,6 +55,7 @@ abbrev pub level_from : ℕ → List Span → ℕ
 level_from n [] = n
 level_from n (t ∷ ts) = level_from (level_behind t.mark n) ts
 
+-- how many brackets are open behind all tokens
 abbrev pub level : List Span → ℕ
 level ts = level_from 0 ts
 
@@ -70,6 +73,7 @@ abbrev pub IsSound : Option Word → Place → Type 0
 IsSound None p = ⊤
 IsSound (Some w) p = IsOpen w.state × (is_number w.state ≡ true → p.want ≡ want.After)
 
+-- the configuration, where there is one, is one that some bytes complete
 abbrev pub IsValid : Option Config → Type 0
 IsValid None = ⊤
 IsValid (Some c) = IsSound c.word c.place

@@ -16,3 +16,4 @@ pub mod HeldWords
 pub mod ReaderState
 pub mod ProgressSeen
 pub mod ReaderAnswers
+pub mod ReaderRuns

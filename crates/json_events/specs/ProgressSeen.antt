@@ -1,5 +1,6 @@
 -- How far a text has come, as the code keeps it: what its private parts promise.
 use Rattle.std.specs.Prelude.{◌≡◌, ◌≢◌, ℕ, ◌+◌, List, [], ◌∷◌, Bool, true, false, Option, Some, None, ⊤}
+use Rattle.std.specs.Option.{IfSome}
 use Rattle.json_events.specs.declared.state.Bracket.{Bracket}
 use Rattle.json_events.specs.declared.state.Kind.{Kind}
 use Rattle.json_events.specs.declared.state.Kind.TheVariants.{Opening, Closing, Separator, Between, Naming, Scalar}
@@ -13,20 +14,58 @@ use Rattle.json_events.specs.declared.step.Ended.{Ended}
 use Rattle.json_events.specs.declared.step.Ended.TheVariants as ended
 use Rattle.json_events.specs.declared.step.Step.{Step}
 use Rattle.json_events.specs.declared.step.Step.TheVariants as step
+use Rattle.json_events.specs.declared.progress.Begun.{Begun}
 use Rattle.json_events.specs.declared.progress.Progress.{Progress}
 use Rattle.json_events.specs.JsonTree.{opens}
 use Rattle.json_events.specs.JsonText.{Span, with_token}
-use Rattle.json_events.specs.WordSteps.{begin, text_mark}
+use Rattle.json_events.specs.WordSteps.{Word, begin, text_mark}
+use Rattle.json_events.specs.HeldWords.{HoldsAt}
 use Rattle.json_events.specs.NestingSteps.{Place, next}
 use Rattle.json_events.specs.NestingSpot.{spot_seen}
 use Rattle.json_events.specs.ReadingSteps.{leaves, gap, failed, wants_key, begins}
 use Rattle.json_events.specs.ReadingMoves.{Moved, lost, moved_at}
 use Rattle.json_events.specs.JsonTokens.{level_in, level_limit}
-use Rattle.json_events.specs.ReaderState.{Reading, config_at, saturated}
+use Rattle.base.specs.Saturated.{saturated}
+use Rattle.json_events.specs.ReaderState.{Reading, config_at}
 use Rattle.json_events.specs.ReaderAnswers.{mark_seen}
 
+-- the state of a word, where one has begun
+abbrev pub state_of : Option Begun → Option WordState
+state_of None = None
+state_of (Some w) = Some w.state
+
+-- whether it stands where a key is wanted
+abbrev pub is_key_of : Option Begun → Bool
+is_key_of None = false
+is_key_of (Some w) = w.is_key
+
+-- where it began
+abbrev pub from_of : Option Begun → ℕ
+from_of None = 0
+from_of (Some w) = w.from
+
+-- what a reader keeps, as the code has it
 abbrev pub reading_of : Progress → Reading
-reading_of p = record { word = p.word; is_key = p.is_key; held = p.held.items; place = spot_seen p.spot; from = p.from; at = p.at }
+reading_of p = record {
+  word = state_of p.word;
+  is_key = is_key_of p.word;
+  held = p.held.items;
+  place = spot_seen p.spot;
+  from = from_of p.word;
+  at = p.at;
+}
+
+-- the word that has begun, with what is kept of it
+abbrev pub word_seen : Begun → List ℕ → Word
+word_seen w held = record { state = w.state; is_key = w.is_key; held = held }
+
+-- what is kept fits the word
+abbrev pub HoldsReading : Reading → Type 0
+HoldsReading r = HoldsAt r.word r.held
+
+-- the word, where one has begun, began there
+abbrev pub BeganAt : Reading → ℕ → Type 0
+BeganAt r from = IfSome r.word (λ _. r.from ≡ from)
 
 -- the tokens of a word that has ended so
 abbrev pub ended_seen : Ended → Bool → List ℕ → ℕ → ℕ → Option (List Span)
@@ -52,6 +91,10 @@ abbrev pub started : Option WordState → ℕ → ℕ → ℕ
 started None from at = at
 started (Some l) from at = from
 
+-- the offset that is kept of it
+abbrev pub word_start : Reading → ℕ
+word_start r = started r.word r.from r.at
+
 -- what a step leaves
 abbrev pub step_seen : Step → Reading → ℕ → ℕ → Moved
 step_seen step.Takes new from at = record { next = config_at new from (at + 1); took = true; given = [] }
@@ -76,6 +119,7 @@ IsBefore step.Takes = ⊥
 IsBefore (step.Gives s) = ⊥
 IsBefore (step.Before s) = ⊤
 
+-- the mark opens a bracket
 abbrev pub is_opening : Kind → Bool
 is_opening (Opening b) = true
 is_opening (Closing b) = false

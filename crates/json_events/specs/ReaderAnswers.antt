@@ -12,7 +12,8 @@ use Rattle.json_events.specs.declared.token.Fed.{Fed}
 use Rattle.json_events.specs.JsonTree.{Json, Mark, opens, closes, key, text, digits, name}
 use Rattle.json_events.specs.JsonText.{Span, IsTextWith}
 use Rattle.json_events.specs.JsonTokens.{IsNoTextWith}
-use Rattle.json_events.specs.ReaderState.{saturated, Reading, StandsFor, IsFaultOf, ReaderState, Stands}
+use Rattle.base.specs.Saturated.{saturated}
+use Rattle.json_events.specs.ReaderState.{Reading, StandsFor, IsFaultOf, ReaderState, Stands}
 
 -- the mark that a token is
 abbrev pub mark_seen : Token → Mark
@@ -56,10 +57,12 @@ abbrev pub fed_bytes : Result Fed JsonFault → List ℕ → List ℕ
 fed_bytes (Ok fed) bytes = take fed.taken bytes
 fed_bytes (Err f) bytes = bytes
 
+-- the token that a call of feed gave
 abbrev pub fed_token : Result Fed JsonFault → Option Spanned
 fed_token (Ok fed) = fed.token
 fed_token (Err f) = None
 
+-- the token that a call of finish gave
 abbrev pub finish_token : Result (Option Spanned) JsonFault → Option Spanned
 finish_token (Ok token) = token
 finish_token (Err f) = None

@@ -1,6 +1,7 @@
 -- What a reader keeps, and the bytes and tokens for which it stands.
-use Rattle.std.specs.Prelude.{◌≡◌, ℕ, ◌+◌, ◌-◌, ◌^◌, ◌<◌, ◌≤◌, ◌⊎◌, List, [], ◌∷◌, ◌++◌, length, take, min, Bool, true, Option, Some, None, ⊤}
+use Rattle.std.specs.Prelude.{◌≡◌, ℕ, ◌+◌, ◌<◌, ◌≤◌, ◌⊎◌, List, [], ◌∷◌, ◌++◌, length, take, Bool, true, Option, Some, None, ⊤}
 use Rattle.std.specs.Option.{IfSome}
+use Rattle.base.specs.Saturated.{saturated}
 use Rattle.json_events.specs.declared.state.Bracket.{Bracket}
 use Rattle.json_events.specs.declared.state.Want.{Want}
 use Rattle.json_events.specs.declared.state.Want.TheVariants as want
@@ -15,10 +16,6 @@ use Rattle.json_events.specs.NestingSteps.{Place}
 use Rattle.json_events.specs.ReadingSteps.{Config, config, gap}
 use Rattle.json_events.specs.HeldWords.{HoldsAt}
 use Rattle.json_events.specs.JsonTokens.{BeginsWith, IsNoTextWith, level, level_in, level_limit, Awaits}
-
--- an offset in 64 bits: past the last number it stays there
-abbrev pub saturated : ℕ → ℕ
-saturated n = min n (2 ^ 64 - 1)
 
 -- the word that has begun and not ended, whether it stands where a key is wanted, and what is kept of it;
 -- the place behind it; where it began, and how many bytes were taken
@@ -35,6 +32,7 @@ abbrev pub word_at : Option WordState → Bool → List ℕ → Place → ℕ �
 word_at None in_key held p from at = gap p at
 word_at (Some l) in_key held p from at = config (Some (record { state = l; is_key = in_key; held = held })) p from at
 
+-- the configuration of what a reader keeps
 abbrev pub config_at : Reading → ℕ → ℕ → Option Config
 config_at r from at = word_at r.word r.is_key r.held r.place from at
 
@@ -93,6 +91,7 @@ pub record ReaderState : Type 0 where
   pub reading : Reading
   pub fault : Option JsonFault
 
+-- what it stands for, by whether it has refused
 abbrev pub StandsByFault : Option JsonFault → Reading → List ℕ → List Span → Type 0
 StandsByFault None r bytes ts = StandsFor r bytes ts
 StandsByFault (Some f) r bytes ts = IsFaultOf f bytes ts ⊎ IsEndFault f bytes ts

@@ -6,6 +6,7 @@ use Rattle.json_events.specs.declared.state.StringState.{StringState}
 use Rattle.json_events.specs.declared.state.StringState.TheVariants.{Plain, Continuation, Escape, Hex, LowSolidus, LowU, Low, Closed}
 use Rattle.json_events.specs.JsonStrings.{escaped_character, is_high_surrogate, paired}
 
+-- the byte lies between these, both counted
 abbrev pub within : ℕ → ℕ → ℕ → Bool
 within low high b = nat_le low b && nat_le b high
 
@@ -19,6 +20,7 @@ pub record Lead : Type 0 where
   pub high : ℕ
   pub left : ℕ
 
+-- a row of the table
 abbrev pub led : ℕ → ℕ → ℕ → Option Lead
 led low high n = Some (record { low = low; high = high; left = n })
 
@@ -34,9 +36,11 @@ lead b =
     else (if b == 244 then led 128 143 2
     else None))))))
 
+-- the byte is a hexadecimal digit
 abbrev pub is_hex : ℕ → Bool
 is_hex b = nat_lt (digit_value b) 16
 
+-- the state behind a first byte
 abbrev pub led_to : Option Lead → Option StringState
 led_to None = None
 led_to (Some l) = Some (Continuation l.low l.high l.left)
@@ -46,6 +50,7 @@ abbrev pub tail_to : ℕ → StringState
 tail_to zero = Plain
 tail_to (suc n) = Continuation 128 191 n
 
+-- behind the letter of an escape
 abbrev pub short_to : Option ℕ → Option StringState
 short_to None = None
 short_to (Some v) = Some Plain
@@ -64,10 +69,12 @@ abbrev pub low_to : ℕ → ℕ → ℕ → Option StringState
 low_to h zero u = Some Plain
 low_to h (suc n) u = if (n == 2 && not (u == 13)) || (n == 1 && not (is_low_front u)) then None else Some (Low h (suc n) u)
 
+-- behind one more digit of four
 abbrev pub more_hex : ℕ → ℕ → ℕ → Option StringState
 more_hex zero v b = None
 more_hex (suc n) v b = if is_hex b then hex_to n (v * 16 + digit_value b) else None
 
+-- the same in the second half of a pair
 abbrev pub more_low : ℕ → ℕ → ℕ → ℕ → Option StringState
 more_low h zero v b = None
 more_low h (suc n) v b = if is_hex b then low_to h n (v * 16 + digit_value b) else None
@@ -83,22 +90,27 @@ more_string (LowU h) b = if b == 117 then Some (Low h 4 0) else None
 more_string (Low h k v) b = more_low h k v b
 more_string Closed b = None
 
+-- the character of a letter, where it has one
 abbrev pub short_held : Option ℕ → List ℕ
 short_held None = []
 short_held (Some v) = v ∷ []
 
+-- the character of four digits, but for half of a pair
 abbrev pub hex_held : ℕ → ℕ → List ℕ
 hex_held zero u = if is_high_surrogate u then [] else encode_utf8 u
 hex_held (suc n) u = []
 
+-- the character of a pair
 abbrev pub low_held : ℕ → ℕ → ℕ → List ℕ
 low_held h zero u = encode_utf8 (paired h u)
 low_held h (suc n) u = []
 
+-- what a digit adds
 abbrev pub hex_adds : ℕ → ℕ → ℕ → List ℕ
 hex_adds zero v b = []
 hex_adds (suc n) v b = hex_held n (v * 16 + digit_value b)
 
+-- what a digit of the second half adds
 abbrev pub low_adds : ℕ → ℕ → ℕ → ℕ → List ℕ
 low_adds h zero v b = []
 low_adds h (suc n) v b = low_held h n (v * 16 + digit_value b)

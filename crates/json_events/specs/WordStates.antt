@@ -27,6 +27,7 @@ IsLowFront (suc (suc (suc zero))) v = v ≡ 13
 IsLowFront (suc (suc (suc (suc zero)))) v = v ≡ 0
 IsLowFront (suc (suc (suc (suc (suc n))))) v = ⊥
 
+-- the states of a string that has not ended
 abbrev pub IsOpenString : StringState → Type 0
 IsOpenString Plain = ⊤
 IsOpenString (Continuation low high n) = low ≤ high

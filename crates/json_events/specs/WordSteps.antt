@@ -12,12 +12,15 @@ use Rattle.json_events.specs.JsonTree.{Mark, opens, closes, comma, colon, key, t
 use Rattle.json_events.specs.JsonText.{spelling}
 use Rattle.json_events.specs.StringSteps.{more_string, string_adds, string_end}
 
+-- a decimal digit
 abbrev pub is_digit : ℕ → Bool
 is_digit b = nat_le 48 b && nat_le b 57
 
+-- the letter of an exponent
 abbrev pub is_e : ℕ → Bool
 is_e b = b == 101 || b == 69
 
+-- a plus or a minus
 abbrev pub is_sign : ℕ → Bool
 is_sign b = b == 43 || b == 45
 
@@ -27,6 +30,7 @@ pub record Word : Type 0 where
   pub is_key : Bool
   pub held : List ℕ
 
+-- a word that there is
 abbrev pub word : WordState → Bool → List ℕ → Option Word
 word l in_key held = Some (record { state = l; is_key = in_key; held = held })
 
@@ -48,12 +52,15 @@ begin in_key b =
     else (if b == 110 then word (Literal names.Null 1) in_key []
     else None))))))))))))
 
+-- behind an integer part
 abbrev pub after_int : ℕ → Option WordState
 after_int b = if b == 46 then Some Point else (if is_e b then Some Exponent else None)
 
+-- to this state by a digit
 abbrev pub some_digit : WordState → ℕ → Option WordState
 some_digit l b = if is_digit b then Some l else None
 
+-- the next letter of a literal name
 abbrev pub letter : Name → ℕ → Option ℕ → ℕ → Option WordState
 letter n k None b = None
 letter n k (Some c) b = if b == c then Some (Literal n (k + 1)) else None

@@ -10,12 +10,12 @@ ghost use Rattle.json_events.specs.ProgressSeen.{ended_seen, IsEndOf};
 use crate::state::{Bracket, Name, StringState, WordState};
 use crate::step::Ended;
 use crate::token::Token;
-use schema::Text;
+use base::Text;
 use std::alloc::Global;
 use std::mem;
 
 /// Whether a word that has taken a byte has ended by itself.
-pub fn ended(l: WordState) -> Ended
+pub(crate) fn ended(l: WordState) -> Ended
     ensures text { IsEndOf result l }
     ensures seen { (in_key : Bool) (held : List ℕ) (from to : ℕ) → ended_seen result in_key held from to ≡ option_map (λ m. with_token m from to []) (if is_number l then None else mark_of l in_key held) }
 {
@@ -79,7 +79,7 @@ fn string_ended(s: StringState) -> Ended
 }
 
 /// Takes the bytes out as a text, in the block that they have.
-pub fn take_text(alloc: Global, held: &mut Vec<u8>) -> Text
+pub(crate) fn take_text(alloc: Global, held: &mut Vec<u8>) -> Text
     requires { IsUtf8 held.old.items }
     ensures { result ≡ held.old.items }
 {
@@ -90,7 +90,7 @@ pub fn take_text(alloc: Global, held: &mut Vec<u8>) -> Text
 }
 
 /// The token of a string.
-pub fn string_token(is_key: bool, text: Text) -> Token
+pub(crate) fn string_token(is_key: bool, text: Text) -> Token
     ensures { mark_seen result ≡ text_mark is_key text }
 {
     if is_key {

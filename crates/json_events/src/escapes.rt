@@ -4,6 +4,7 @@
 ghost use Rattle.std.specs.Prelude.{◌≡◌, ℕ, ◌+◌, ◌*◌, ◌<◌, ◌≤◌, length, take, IsTrue, Some, None, if◌then◌else◌};
 ghost use Rattle.std.specs.List.{list_all};
 ghost use Rattle.std.specs.Char.{digit_value};
+ghost use Rattle.json_events.specs.declared.state.StringState.TheVariants.{Plain, Escape};
 ghost use Rattle.json_events.specs.JsonStrings.{escaped_character, is_high_surrogate};
 ghost use Rattle.json_events.specs.StringSteps.{within, is_plain, lead, led_to, tail_to, is_hex, is_low_front, more_hex, more_low, more_string};
 ghost use Rattle.json_events.specs.WordStates.{IsUnitFront, IsLowFront, IsOpenString};
@@ -24,7 +25,7 @@ fn is_plain(b: u8) -> bool
 }
 
 /// How many bytes at the front stand for themselves.
-pub fn plain_len(bytes: &[u8]) -> usize
+pub(crate) fn plain_len(bytes: &[u8]) -> usize
     ensures within { result ≤ length bytes.now }
     ensures plain { IsTrue (list_all is_plain (take result bytes.now)) }
 {
@@ -70,7 +71,7 @@ fn tail(n: u8) -> StringState
 }
 
 /// The character for which a letter behind a reverse solidus stands.
-pub fn escaped_character(letter: u8) -> Option<u8>
+pub(crate) fn escaped_character(letter: u8) -> Option<u8>
     ensures { result ≡ escaped_character letter }
 {
     if letter == b'"' {
@@ -115,7 +116,7 @@ fn digit_value(b: u8) -> u32
 }
 
 /// The number with one hexadecimal digit more.
-pub fn with_digit(v: u32, b: u8) -> Option<u32>
+pub(crate) fn with_digit(v: u32, b: u8) -> Option<u32>
     requires { v < 4096 }
     ensures { result ≡ (if is_hex b then Some (v * 16 + digit_value b) else None) }
 {
@@ -124,7 +125,7 @@ pub fn with_digit(v: u32, b: u8) -> Option<u32>
 }
 
 /// The first half of a surrogate pair.
-pub fn is_high_surrogate(unit: u32) -> bool
+pub(crate) fn is_high_surrogate(unit: u32) -> bool
     ensures { result ≡ is_high_surrogate unit }
 {
     55296 <= unit && unit <= 56319
@@ -137,21 +138,29 @@ fn is_low_front(v: u32) -> bool
     220 <= v && v <= 223
 }
 
+/// The last digit behind `\u`.
+fn last_digit(v: u32, b: u8) -> Option<StringState>
+    requires { v < 4096 }
+    ensures { result ≡ more_hex 1 v b }
+{
+    match with_digit(v, b) {
+        None => None,
+        Some(unit) => if is_high_surrogate(unit) {
+            Some(StringState::LowSolidus(unit))
+        } else {
+            Some(StringState::Plain)
+        },
+    }
+}
+
 /// One byte of the digits behind `\u`.
-#[tactic(auto, using(crate::proofs::StringFronts::other_unit))]
+#[tactic(auto, using(crate::proofs::strings::StringFronts::other_unit))]
 fn more_hex(k: u8, v: u32, b: u8) -> Option<StringState>
     requires { IsUnitFront k v }
     ensures { result ≡ more_hex k v b }
 {
     match k {
-        1 => match with_digit(v, b) {
-            None => None,
-            Some(unit) => if is_high_surrogate(unit) {
-                Some(StringState::LowSolidus(unit))
-            } else {
-                Some(StringState::Plain)
-            },
-        },
+        1 => last_digit(v, b),
         2 => match with_digit(v, b) {
             None => None,
             Some(unit) => Some(StringState::Hex(1, unit)),
@@ -172,8 +181,23 @@ fn more_hex(k: u8, v: u32, b: u8) -> Option<StringState>
     }
 }
 
+/// The second digit of the second half of a pair.
+fn second_digit(high: u32, v: u32, b: u8) -> Option<StringState>
+    requires { v < 4096 }
+    ensures { result ≡ more_low high 3 v b }
+{
+    match with_digit(v, b) {
+        None => None,
+        Some(unit) => if is_low_front(unit) {
+            Some(StringState::Low(high, 2, unit))
+        } else {
+            None
+        },
+    }
+}
+
 /// One byte of the digits of the second half of a pair.
-#[tactic(auto, using(crate::proofs::StringFronts::other_low, crate::proofs::StringFronts::low_front_small))]
+#[tactic(auto, using(crate::proofs::strings::StringFronts::other_low, crate::proofs::strings::StringFronts::low_front_small))]
 fn more_low(high: u32, k: u8, v: u32, b: u8) -> Option<StringState>
     requires { IsLowFront k v }
     ensures { result ≡ more_low high k v b }
@@ -187,14 +211,7 @@ fn more_low(high: u32, k: u8, v: u32, b: u8) -> Option<StringState>
             None => None,
             Some(unit) => Some(StringState::Low(high, 1, unit)),
         },
-        3 => match with_digit(v, b) {
-            None => None,
-            Some(unit) => if is_low_front(unit) {
-                Some(StringState::Low(high, 2, unit))
-            } else {
-                None
-            },
-        },
+        3 => second_digit(high, v, b),
         4 => match with_digit(v, b) {
             None => None,
             Some(unit) => if unit == 13 {
@@ -207,34 +224,47 @@ fn more_low(high: u32, k: u8, v: u32, b: u8) -> Option<StringState>
     }
 }
 
+/// One byte between two characters.
+fn more_plain(b: u8) -> Option<StringState>
+    ensures { result ≡ more_string Plain b }
+{
+    if b == b'"' {
+        Some(StringState::Closed)
+    } else if b == b'\\' {
+        Some(StringState::Escape)
+    } else if is_plain(b) {
+        Some(StringState::Plain)
+    } else {
+        led(b)
+    }
+}
+
+/// One byte behind a reverse solidus.
+fn more_escape(b: u8) -> Option<StringState>
+    ensures { result ≡ more_string Escape b }
+{
+    if b == b'u' {
+        return Some(StringState::Hex(4, 0));
+    }
+    match escaped_character(b) {
+        None => None,
+        Some(_) => Some(StringState::Plain),
+    }
+}
+
 /// The state behind one more byte, where the string may have it.
-pub fn more_string(s: StringState, b: u8) -> Option<StringState>
+pub(crate) fn more_string(s: StringState, b: u8) -> Option<StringState>
     requires { IsOpenString s }
     ensures { result ≡ more_string s b }
 {
     match s {
-        StringState::Plain => if b == b'"' {
-            Some(StringState::Closed)
-        } else if b == b'\\' {
-            Some(StringState::Escape)
-        } else if is_plain(b) {
-            Some(StringState::Plain)
-        } else {
-            led(b)
-        },
+        StringState::Plain => more_plain(b),
         StringState::Continuation(low, high, n) => if is_within(low, high, b) {
             Some(tail(n))
         } else {
             None
         },
-        StringState::Escape => if b == b'u' {
-            Some(StringState::Hex(4, 0))
-        } else {
-            match escaped_character(b) {
-                None => None,
-                Some(_) => Some(StringState::Plain),
-            }
-        },
+        StringState::Escape => more_escape(b),
         StringState::Hex(k, v) => more_hex(k, v, b),
         StringState::LowSolidus(high) => if b == b'\\' {
             Some(StringState::LowU(high))

@@ -2,6 +2,7 @@
 
 ghost use Rattle.std.specs.Prelude.{◌≡◌, ◌≢◌, ℕ, ◌+◌, ◌*◌, ◌≤◌, ◌++◌, true, None, OnOk};
 ghost use Rattle.std.specs.Char.{digit_value, encode_utf8, IsScalar};
+ghost use Rattle.json_events.specs.declared.state.StringState.TheVariants.{Escape};
 ghost use Rattle.json_events.specs.JsonStrings.{is_high_surrogate, paired};
 ghost use Rattle.json_events.specs.StringSteps.{is_hex, hex_held, low_held, more_string, string_adds};
 ghost use Rattle.json_events.specs.WordStates.{IsUnitFront, IsLowFront, IsOpenString, IsOpen};
@@ -27,7 +28,7 @@ fn push_character(held: &mut Vec<u8>, code: u32) -> Result<(), AllocError>
 }
 
 /// The last digit behind `\u`: the first half of a pair adds nothing yet.
-#[tactic(auto, using(crate::proofs::StringFronts::unit_is_scalar))]
+#[tactic(auto, using(crate::proofs::strings::StringFronts::unit_is_scalar))]
 fn hold_unit(held: &mut Vec<u8>, v: u32, b: u8) -> Result<(), AllocError>
     requires front { IsUnitFront 1 v }
     requires digit { is_hex b ≡ true }
@@ -55,7 +56,7 @@ fn paired(high: u32, low: u32) -> u32
 }
 
 /// The last digit of the second half of a pair: it adds the character of the pair.
-#[tactic(auto, using(crate::proofs::LowHalves::low_is_scalar, crate::proofs::LowHalves::low_ends, crate::proofs::StringFronts::high_ends))]
+#[tactic(auto, using(crate::proofs::strings::LowHalves::low_is_scalar, crate::proofs::strings::LowHalves::low_ends, crate::proofs::strings::StringFronts::high_ends))]
 fn hold_low(held: &mut Vec<u8>, high: u32, v: u32, b: u8) -> Result<(), AllocError>
     requires high { is_high_surrogate high ≡ true }
     requires front { IsLowFront 1 v }
@@ -68,8 +69,24 @@ fn hold_low(held: &mut Vec<u8>, high: u32, v: u32, b: u8) -> Result<(), AllocErr
     }
 }
 
+/// The letter of an escape: it adds its character.
+fn hold_escape(held: &mut Vec<u8>, b: u8) -> Result<(), AllocError>
+    ensures { OnOk result (held.new.items ≡ held.old.items ++ string_adds Escape b) }
+{
+    if b == b'u' {
+        return Ok(());
+    }
+    match escaped_character(b) {
+        None => Ok(()),
+        Some(c) => {
+            held.push(c)?;
+            Ok(())
+        }
+    }
+}
+
 /// Keeps what a byte adds to the text of a string, which may have that byte.
-#[tactic(auto, using(crate::proofs::StringFronts::needed_digit, crate::proofs::StringFronts::needed_low, crate::proofs::StringFronts::other_digit, crate::proofs::StringFronts::other_low_digit))]
+#[tactic(auto, using(crate::proofs::strings::StringFronts::needed_digit, crate::proofs::strings::StringFronts::needed_low, crate::proofs::strings::StringFronts::other_digit, crate::proofs::strings::StringFronts::other_low_digit))]
 fn hold_text(held: &mut Vec<u8>, s: StringState, b: u8) -> Result<(), AllocError>
     requires open { IsOpenString s }
     requires goes_on { more_string s b ≢ None }
@@ -86,17 +103,7 @@ fn hold_text(held: &mut Vec<u8>, s: StringState, b: u8) -> Result<(), AllocError
             held.push(b)?;
             Ok(())
         }
-        StringState::Escape => if b == b'u' {
-            Ok(())
-        } else {
-            match escaped_character(b) {
-                None => Ok(()),
-                Some(c) => {
-                    held.push(c)?;
-                    Ok(())
-                }
-            }
-        },
+        StringState::Escape => hold_escape(held, b),
         StringState::Hex(k, v) => if k == 1 {
             hold_unit(held, v, b)
         } else {
@@ -112,8 +119,8 @@ fn hold_text(held: &mut Vec<u8>, s: StringState, b: u8) -> Result<(), AllocError
 }
 
 /// Keeps a further byte of a word, which may have it, where it is kept.
-#[tactic(auto, using(crate::proofs::StringFronts::inside_goes_on))]
-pub fn hold_more(held: &mut Vec<u8>, word: WordState, b: u8) -> Result<(), AllocError>
+#[tactic(auto, using(crate::proofs::strings::StringFronts::inside_goes_on))]
+pub(crate) fn hold_more(held: &mut Vec<u8>, word: WordState, b: u8) -> Result<(), AllocError>
     requires open { IsOpen word }
     requires goes_on { more_state word b ≢ None }
     ensures { OnOk result (held.new.items ≡ held_on word held.old.items b) }

@@ -4,7 +4,7 @@ ghost use Rattle.std.specs.Prelude.{◌≡◌, ◌==◌, ◌≤◌, IfOk, IfErr,
 ghost use Rattle.json_events.specs.ReadingMoves.{is_place};
 ghost use Rattle.json_events.specs.JsonTokens.{level_in, level_limit};
 ghost use Rattle.json_events.specs.ProgressSeen.{is_opening, IsMarkFault};
-ghost use Rattle.json_events.specs.NestingSteps.{IsTurn, next};
+ghost use Rattle.json_events.specs.NestingSteps.{IsTurn, IsTurnAnywhere, next, turned};
 ghost use Rattle.json_events.specs.NestingSpot.{spot_seen};
 ghost use Rattle.std.specs.Prelude.{List};
 ghost use Rattle.json_events.specs.JsonText.{Span};
@@ -16,7 +16,7 @@ use crate::state::{Bracket, Kind, Turn, Want};
 use std::alloc::AllocError;
 
 /// How many brackets may be open.
-pub const LEVEL_LIMIT: usize = 208;
+pub(crate) const LEVEL_LIMIT: usize = 208;
 
 fn after_value(top: Option<Bracket>, kind: Kind) -> Turn
     ensures { IsTurn result Want.After top kind }
@@ -36,8 +36,20 @@ fn after_value(top: Option<Bracket>, kind: Kind) -> Turn
     }
 }
 
+fn first_item(kind: Kind) -> Turn
+    ensures { IsTurnAnywhere result Want.FirstItem kind }
+{
+    match kind {
+        Kind::Opening(Bracket::Array) => Turn::Push(Bracket::Array, Want::FirstItem),
+        Kind::Opening(Bracket::Object) => Turn::Push(Bracket::Array, Want::FirstKey),
+        Kind::Closing(Bracket::Array) => Turn::Stay(Want::After),
+        Kind::Scalar => Turn::Push(Bracket::Array, Want::After),
+        _ => Turn::Refuse,
+    }
+}
+
 /// What a mark does at a place.
-pub fn turn(want: Want, top: Option<Bracket>, kind: Kind) -> Turn
+pub(crate) fn turn(want: Want, top: Option<Bracket>, kind: Kind) -> Turn
     ensures { IsTurn result want top kind }
 {
     match want {
@@ -47,13 +59,7 @@ pub fn turn(want: Want, top: Option<Bracket>, kind: Kind) -> Turn
             Kind::Scalar => Turn::Stay(Want::After),
             _ => Turn::Refuse,
         },
-        Want::FirstItem => match kind {
-            Kind::Opening(Bracket::Array) => Turn::Push(Bracket::Array, Want::FirstItem),
-            Kind::Opening(Bracket::Object) => Turn::Push(Bracket::Array, Want::FirstKey),
-            Kind::Closing(Bracket::Array) => Turn::Stay(Want::After),
-            Kind::Scalar => Turn::Push(Bracket::Array, Want::After),
-            _ => Turn::Refuse,
-        },
+        Want::FirstItem => first_item(kind),
         Want::FirstKey => match kind {
             Kind::Closing(Bracket::Object) => Turn::Stay(Want::After),
             Kind::Naming => Turn::Stay(Want::Colon),
@@ -73,7 +79,7 @@ pub fn turn(want: Want, top: Option<Bracket>, kind: Kind) -> Turn
 
 /// What is wanted, and the brackets around it.
 #[derive(Debug, Drop)]
-pub struct Spot {
+pub(crate) struct Spot {
     pub want: Want,
     pub around: Stack,
 }
@@ -118,6 +124,30 @@ impl Spot {
         }
     }
 
+    /// Goes inside a bracket, where the mark has this turn.
+    fn go_inside(
+        &mut self,
+        bracket: Bracket,
+        want: Want,
+        kind: Kind,
+        at: u64,
+    ) -> Result<(), JsonFault>
+        requires turn { turned (Turn.Push bracket want) self.old.around ≡ next (spot_seen self.old) kind }
+        requires shallow { level_in self.old.want self.old.around ≤ level_limit }
+        ensures ok { OnOk result (next (spot_seen self.old) kind ≡ Some (spot_seen self.new)) }
+        ensures err { IfErr result (λ f. IsMarkFault f at (spot_seen self.old) kind) }
+        ensures shallow { OnOk result (level_in self.new.want self.new.around ≤ level_limit) }
+    {
+        if is_opening(kind) && self.is_full() {
+            return Err(JsonFault::TooDeep(at));
+        }
+        if self.around.push(bracket).is_err() {
+            return Err(JsonFault::NoMemory);
+        }
+        self.want = want;
+        Ok(())
+    }
+
     /// Goes on by a mark that begins there, or says why it may not come.
     pub fn enter(&mut self, kind: Kind, at: u64) -> Result<(), JsonFault>
         requires shallow { level_in self.old.want self.old.around ≤ level_limit }
@@ -134,16 +164,7 @@ impl Spot {
                 self.want = want;
                 Ok(())
             }
-            Turn::Push(bracket, want) => {
-                if is_opening(kind) && self.is_full() {
-                    return Err(JsonFault::TooDeep(at));
-                }
-                if self.around.push(bracket).is_err() {
-                    return Err(JsonFault::NoMemory);
-                }
-                self.want = want;
-                Ok(())
-            }
+            Turn::Push(bracket, want) => self.go_inside(bracket, want, kind, at),
             Turn::Pop(want) => match self.around.top() {
                 None => Err(JsonFault::Syntax(at)),
                 Some(_) => {
@@ -167,7 +188,7 @@ fn is_opening(kind: Kind) -> bool
 }
 
 /// Whether a string is a key there.
-pub fn wants_key(want: Want) -> bool
+pub(crate) fn wants_key(want: Want) -> bool
     ensures { result ≡ wants_key want }
 {
     match want {

@@ -3,16 +3,19 @@
 ghost use Rattle.std.specs.Prelude.{◌≡◌, ℕ, ◌+◌, ◌*◌, ◌<◌, ◌≤◌, ◌⊎◌, List, [], ◌∷◌, length, take, true, Some, None, IfOk, IfErr, IfSome, IsSome, OnOk, IsUtf8};
 ghost use Rattle.json_events.specs.WordSteps.{begin, more_state, held_on};
 ghost use Rattle.json_events.specs.WordStates.{IsOpen};
+ghost use Rattle.json_events.specs.declared.state.StringState.TheVariants.{Plain};
+ghost use Rattle.json_events.specs.declared.state.WordState.TheVariants.{Inside};
 ghost use Rattle.json_events.specs.JsonTree.{digits};
 ghost use Rattle.json_events.specs.declared.fault.JsonFault.TheVariants as fault;
-ghost use Rattle.json_events.specs.HeldWords.{HoldsAt, HoldsWord};
+ghost use Rattle.json_events.specs.HeldWords.{HoldsWord};
 ghost use Rattle.json_events.specs.NestingSpot.{spot_seen};
 ghost use Rattle.json_events.specs.ReadingSteps.{leaves, on_word, begins, wants_key};
 ghost use Rattle.json_events.specs.ReadingMoves.{lost, takes, moved_at, moved_word, may_come};
 ghost use Rattle.json_events.specs.JsonTokens.{level_in, level_limit};
-ghost use Rattle.json_events.specs.ReaderState.{config_at, saturated, IsReadable, StandsFor};
+ghost use Rattle.base.specs.Saturated.{saturated};
+ghost use Rattle.json_events.specs.ReaderState.{config_at, IsReadable, StandsFor};
 ghost use Rattle.json_events.specs.ReaderAnswers.{mark_seen, StandsOn, IsFaultBehind, IsWholeWith, IsNotWhole, pending_word};
-ghost use Rattle.json_events.specs.ProgressSeen.{reading_of, given_seen, started, step_seen, at_behind, IsPlaced, IsBefore, IsEntryFault, IsRefused};
+ghost use Rattle.json_events.specs.ProgressSeen.{reading_of, word_seen, word_start, HoldsReading, BeganAt, given_seen, started, step_seen, at_behind, IsPlaced, IsBefore, IsEntryFault, IsRefused};
 
 use crate::endings::{ended, string_token, take_text};
 use crate::escapes::plain_len;
@@ -26,77 +29,82 @@ use crate::token::{Fed, Spanned, Token};
 use crate::words::{begin, hold_first, is_blank, is_plain_string, is_whole, kind, more};
 use std::alloc::Global;
 
-/// How far a text has come: the word that has begun, whether it stands where a key is wanted and what is
-/// kept of it, the place behind it, where it began, and how many bytes were taken.
+/// A word that has begun and not ended.
+#[derive(Clone, Copy, Debug)]
+pub(crate) struct Begun {
+    /// How far it has come.
+    pub(crate) state: WordState,
+    /// Whether it stands where a key is wanted.
+    pub(crate) is_key: bool,
+    /// The offset of its first byte.
+    pub(crate) from: u64,
+}
+
+/// How far a text has come.
 #[derive(Debug, Drop)]
-pub struct Progress {
-    pub alloc: Global,
-    pub word: Option<WordState>,
-    pub is_key: bool,
-    pub held: Vec<u8>,
-    pub spot: Spot,
-    pub from: u64,
-    pub at: u64,
+pub(crate) struct Progress {
+    /// Where memory comes from.
+    pub(crate) alloc: Global,
+    /// The word that has begun, if one has.
+    pub(crate) word: Option<Begun>,
+    /// What is kept of it; its room serves the next word.
+    pub(crate) held: Vec<u8>,
+    /// What may come behind it.
+    pub(crate) spot: Spot,
+    /// How many bytes were taken.
+    pub(crate) at: u64,
 }
 
 impl Progress {
     /// Nothing has come.
-    #[tactic(auto, using(crate::proofs::StandLemmas::start_stands))]
+    #[tactic(auto, using(crate::proofs::reading::StandLemmas::start_stands))]
     pub fn new(alloc: Global) -> Progress
         ensures stands { StandsFor (reading_of result) [] [] }
         ensures readable { IsReadable (reading_of result) }
-        ensures idle { result.word ≡ None }
+        ensures idle { (reading_of result).word ≡ None }
     {
         Progress {
             alloc,
             word: None,
-            is_key: false,
             held: Vec::new(alloc),
             spot: Spot {
                 want: Want::Value,
                 around: Stack::new(alloc),
             },
-            from: 0,
             at: 0,
         }
     }
 
     /// Puts the word that has just taken a byte.
-    fn put(&mut self, l: WordState) -> Option<Spanned>
-        requires holds { HoldsWord l self.old.held.items }
-        ensures out { (from at : ℕ) → leaves (config_at (reading_of self.new) from at) (given_seen result from at) ≡ on_word (record { state = l; is_key = self.old.is_key; held = self.old.held.items }) (spot_seen self.old.spot) from at }
-        ensures holds { HoldsAt self.new.word self.new.held.items }
+    fn put(&mut self, word: Begun) -> Option<Spanned>
+        requires holds { HoldsWord word.state self.old.held.items }
+        ensures out { (from at : ℕ) → leaves (config_at (reading_of self.new) from at) (given_seen result from at) ≡ on_word (word_seen word self.old.held.items) (spot_seen self.old.spot) from at }
+        ensures holds { HoldsReading (reading_of self.new) }
         ensures spot { self.new.spot ≡ self.old.spot }
-        ensures from { self.new.from ≡ self.old.from }
+        ensures from { BeganAt (reading_of self.new) word.from }
         ensures at { self.new.at ≡ self.old.at }
-        ensures placed { IfSome result (λ s. (s.from ≡ self.old.from) × (s.to ≡ self.old.at)) }
+        ensures placed { IfSome result (λ s. (s.from ≡ word.from) × (s.to ≡ self.old.at)) }
     {
-        match ended(l) {
+        self.word = None;
+        match ended(word.state) {
             Ended::No => {
-                self.word = Some(l);
+                self.word = Some(word);
                 None
             }
-            Ended::Quiet => {
-                self.word = None;
-                None
-            }
+            Ended::Quiet => None,
             Ended::Text => {
-                self.word = None;
                 let text = take_text(self.alloc, &mut self.held);
                 Some(Spanned {
-                    token: string_token(self.is_key, text),
-                    from: self.from,
+                    token: string_token(word.is_key, text),
+                    from: word.from,
                     to: self.at,
                 })
             }
-            Ended::Gives(token) => {
-                self.word = None;
-                Some(Spanned {
-                    token,
-                    from: self.from,
-                    to: self.at,
-                })
-            }
+            Ended::Gives(token) => Some(Spanned {
+                token,
+                from: word.from,
+                to: self.at,
+            }),
         }
     }
 
@@ -104,9 +112,9 @@ impl Progress {
     fn enter(&mut self, b: u8) -> Result<Option<Spanned>, JsonFault>
         requires shallow { level_in self.old.spot.want self.old.spot.around ≤ level_limit }
         ensures ok { IfOk result (λ s. (at : ℕ) → leaves (config_at (reading_of self.new) at (at + 1)) (given_seen s at (at + 1)) ≡ begins (begin (wants_key self.old.spot.want) b) (spot_seen self.old.spot) at) }
-        ensures holds { OnOk result (HoldsAt self.new.word self.new.held.items) }
+        ensures holds { OnOk result (HoldsReading (reading_of self.new)) }
         ensures shallow { OnOk result (level_in self.new.spot.want self.new.spot.around ≤ level_limit) }
-        ensures from { OnOk result (self.new.from ≡ self.old.at) }
+        ensures from { OnOk result (BeganAt (reading_of self.new) self.old.at) }
         ensures at { OnOk result (self.new.at ≡ saturated (self.old.at + 1)) }
         ensures placed { IfOk result (λ t. IfSome t (λ s. (s.from ≡ self.old.at) × (s.to ≡ self.new.at))) }
         ensures err { IfErr result (λ f. IsEntryFault f (reading_of self.old) b) }
@@ -119,10 +127,13 @@ impl Progress {
                 Ok(()) => match hold_first(&mut self.held, l, b) {
                     Err(_) => Err(JsonFault::NoMemory),
                     Ok(()) => {
-                        self.is_key = is_key;
-                        self.from = self.at;
+                        let word = Begun {
+                            state: l,
+                            is_key,
+                            from: self.at,
+                        };
                         self.at = self.at.saturating_add(1);
-                        Ok(self.put(l))
+                        Ok(self.put(word))
                     }
                 },
             },
@@ -130,10 +141,10 @@ impl Progress {
     }
 
     /// Takes the number out that ends here.
-    fn take_number(&mut self) -> Spanned
+    fn take_number(&mut self, from: u64) -> Spanned
         requires { IsUtf8 self.old.held.items }
         ensures mark { mark_seen result.token ≡ digits self.old.held.items }
-        ensures placed { (result.from ≡ self.old.from) × (result.to ≡ self.old.at) }
+        ensures placed { (result.from ≡ from) × (result.to ≡ self.old.at) }
         ensures word { self.new.word ≡ None }
         ensures spot { self.new.spot ≡ self.old.spot }
         ensures at { self.new.at ≡ self.old.at }
@@ -142,25 +153,25 @@ impl Progress {
         let digits = take_text(self.alloc, &mut self.held);
         Spanned {
             token: Token::Number(digits),
-            from: self.from,
+            from,
             to: self.at,
         }
     }
 
     /// Ends a word before a byte that does not go on with it.
-    #[tactic(auto, using(crate::proofs::HeldLemmas::whole_utf8))]
-    fn end_before(&mut self, l: WordState, b: u8) -> Result<Step, JsonFault>
-        requires open { IsOpen l }
-        requires holds { HoldsWord l self.old.held.items }
-        ensures ok { IfOk result (λ s. (from at : ℕ) → step_seen s (reading_of self.new) from at ≡ moved_word None (record { state = l; is_key = self.old.is_key; held = self.old.held.items }) (spot_seen self.old.spot) from at b) }
-        ensures err { IfErr result (λ f. (f ≡ fault.Syntax self.old.at) × ((from at : ℕ) → moved_word None (record { state = l; is_key = self.old.is_key; held = self.old.held.items }) (spot_seen self.old.spot) from at b ≡ lost)) }
+    #[tactic(auto, using(crate::proofs::reading::HeldLemmas::whole_utf8))]
+    fn end_before(&mut self, word: Begun, b: u8) -> Result<Step, JsonFault>
+        requires open { IsOpen word.state }
+        requires holds { HoldsWord word.state self.old.held.items }
+        ensures ok { IfOk result (λ s. (from at : ℕ) → step_seen s (reading_of self.new) from at ≡ moved_word None (word_seen word self.old.held.items) (spot_seen self.old.spot) from at b) }
+        ensures err { IfErr result (λ f. (f ≡ fault.Syntax self.old.at) × ((from at : ℕ) → moved_word None (word_seen word self.old.held.items) (spot_seen self.old.spot) from at b ≡ lost)) }
         ensures word { OnOk result (self.new.word ≡ None) }
         ensures spot { self.new.spot ≡ self.old.spot }
         ensures at { IfOk result (λ s. self.new.at ≡ at_behind s self.old.at) }
-        ensures placed { IfOk result (λ s. IsPlaced s self.old.from self.new.at) }
+        ensures placed { IfOk result (λ s. IsPlaced s word.from self.new.at) }
     {
-        if is_whole(l) && self.may_come(b) {
-            Ok(Step::Before(self.take_number()))
+        if is_whole(word.state) && self.may_come(b) {
+            Ok(Step::Before(self.take_number(word.from)))
         } else {
             Err(JsonFault::Syntax(self.at))
         }
@@ -181,25 +192,28 @@ impl Progress {
     }
 
     /// Goes on with a word by a byte that it may have.
-    #[tactic(auto, using(crate::proofs::HeldLemmas::more_holds))]
-    fn go_on(&mut self, l: WordState, next: WordState, b: u8) -> Result<Step, JsonFault>
-        requires open { IsOpen l }
-        requires holds { HoldsWord l self.old.held.items }
-        requires next { more_state l b ≡ Some next }
-        ensures ok { IfOk result (λ s. (from at : ℕ) → step_seen s (reading_of self.new) from at ≡ takes (on_word (record { state = next; is_key = self.old.is_key; held = held_on l self.old.held.items b }) (spot_seen self.old.spot) from (at + 1))) }
+    #[tactic(auto, using(crate::proofs::reading::HeldLemmas::more_holds))]
+    fn go_on(&mut self, word: Begun, next: WordState, b: u8) -> Result<Step, JsonFault>
+        requires open { IsOpen word.state }
+        requires holds { HoldsWord word.state self.old.held.items }
+        requires next { more_state word.state b ≡ Some next }
+        ensures ok { IfOk result (λ s. (from at : ℕ) → step_seen s (reading_of self.new) from at ≡ takes (on_word (record { state = next; is_key = word.is_key; held = held_on word.state self.old.held.items b }) (spot_seen self.old.spot) from (at + 1))) }
         ensures err { IfErr result (λ f. f ≡ fault.NoMemory) }
         ensures taken { IfOk result (λ s. IsBefore s → ⊥) }
-        ensures holds { OnOk result (HoldsAt self.new.word self.new.held.items) }
+        ensures holds { OnOk result (HoldsReading (reading_of self.new)) }
         ensures spot { self.new.spot ≡ self.old.spot }
-        ensures from { self.new.from ≡ self.old.from }
+        ensures from { OnOk result (BeganAt (reading_of self.new) word.from) }
         ensures at { IfOk result (λ s. self.new.at ≡ at_behind s self.old.at) }
-        ensures placed { IfOk result (λ s. IsPlaced s self.old.from self.new.at) }
+        ensures placed { IfOk result (λ s. IsPlaced s word.from self.new.at) }
     {
-        match hold_more(&mut self.held, l, b) {
+        match hold_more(&mut self.held, word.state, b) {
             Err(_) => Err(JsonFault::NoMemory),
             Ok(()) => {
                 self.at = self.at.saturating_add(1);
-                match self.put(next) {
+                match self.put(Begun {
+                    state: next,
+                    ..word
+                }) {
                     None => Ok(Step::Takes),
                     Some(token) => Ok(Step::Gives(token)),
                 }
@@ -210,14 +224,14 @@ impl Progress {
     /// One byte.
     fn advance(&mut self, b: u8) -> Result<Step, JsonFault>
         requires readable { IsReadable (reading_of self.old) }
-        ensures ok { IfOk result (λ s. (from at : ℕ) → step_seen s (reading_of self.new) (started self.old.word from at) at ≡ moved_at (config_at (reading_of self.old) from at) b) }
+        ensures ok { IfOk result (λ s. (from at : ℕ) → step_seen s (reading_of self.new) (started (reading_of self.old).word from at) at ≡ moved_at (config_at (reading_of self.old) from at) b) }
         ensures err { IfErr result (λ f. IsRefused f (reading_of self.old) b) }
-        ensures holds { OnOk result (HoldsAt self.new.word self.new.held.items) }
+        ensures holds { OnOk result (HoldsReading (reading_of self.new)) }
         ensures shallow { OnOk result (level_in self.new.spot.want self.new.spot.around ≤ level_limit) }
         ensures at { IfOk result (λ s. self.new.at ≡ at_behind s self.old.at) }
-        ensures from { OnOk result (IfSome self.new.word (λ _. self.new.from ≡ started self.old.word self.old.from self.old.at)) }
-        ensures placed { IfOk result (λ s. IsPlaced s (started self.old.word self.old.from self.old.at) self.new.at) }
-        ensures before { IfOk result (λ s. IsBefore s → (pending_word self.old.word ≡ 1) × (pending_word self.new.word ≡ 0)) }
+        ensures from { OnOk result (BeganAt (reading_of self.new) (word_start (reading_of self.old))) }
+        ensures placed { IfOk result (λ s. IsPlaced s (word_start (reading_of self.old)) self.new.at) }
+        ensures before { IfOk result (λ s. IsBefore s → (pending_word (reading_of self.old).word ≡ 1) × (pending_word (reading_of self.new).word ≡ 0)) }
     {
         match self.word {
             None => if is_blank(b) {
@@ -230,10 +244,20 @@ impl Progress {
                     Ok(Some(token)) => Ok(Step::Gives(token)),
                 }
             },
-            Some(l) => match more(l, b) {
-                None => self.end_before(l, b),
-                Some(next) => self.go_on(l, next, b),
+            Some(word) => match more(word.state, b) {
+                None => self.end_before(word, b),
+                Some(next) => self.go_on(word, next, b),
             },
+        }
+    }
+
+    /// Whether a string has begun and stands between two characters.
+    fn is_between_characters(&self) -> bool
+        ensures { result ≡ true → (reading_of self.now).word ≡ Some (Inside Plain) }
+    {
+        match self.word {
+            None => false,
+            Some(word) => is_plain_string(word.state),
         }
     }
 
@@ -246,7 +270,7 @@ impl Progress {
         ensures word { self.new.word ≡ self.old.word }
         ensures err { IfErr result (λ f. f ≡ fault.NoMemory) }
     {
-        if !is_plain_string(self.word) {
+        if !self.is_between_characters() {
             return Ok(0);
         }
         let n = plain_len(bytes);
@@ -265,7 +289,7 @@ impl Progress {
         requires some { 0 < length bytes.now }
         ensures readable { OnOk result (IsReadable (reading_of self.new)) }
         ensures within { IfOk result (λ fed. fed.taken ≤ length bytes.now) }
-        ensures moves { IfOk result (λ fed. (fed.token ≡ None → 0 < fed.taken) × (IsSome fed.token → pending_word self.new.word < 2 * fed.taken + pending_word self.old.word)) }
+        ensures moves { IfOk result (λ fed. (fed.token ≡ None → 0 < fed.taken) × (IsSome fed.token → pending_word (reading_of self.new).word < 2 * fed.taken + pending_word (reading_of self.old).word)) }
         ensures stands { IfOk result (λ fed. StandsOn (reading_of self.old) (reading_of self.new) (take fed.taken bytes.now) fed.token) }
         ensures fault { IfErr result (λ f. IsFaultBehind f (reading_of self.old) bytes.now) }
     {
@@ -292,7 +316,7 @@ impl Progress {
         requires some { 0 < length bytes.now }
         ensures readable { OnOk result (IsReadable (reading_of self.new)) }
         ensures within { IfOk result (λ fed. fed.taken ≤ length bytes.now) }
-        ensures moves { IfOk result (λ fed. (fed.token ≡ None → 0 < fed.taken) × (IsSome fed.token → pending_word self.new.word < 2 * fed.taken + pending_word self.old.word)) }
+        ensures moves { IfOk result (λ fed. (fed.token ≡ None → 0 < fed.taken) × (IsSome fed.token → pending_word (reading_of self.new).word < 2 * fed.taken + pending_word (reading_of self.old).word)) }
         ensures stands { IfOk result (λ fed. StandsOn (reading_of self.old) (reading_of self.new) (take fed.taken bytes.now) fed.token) }
         ensures fault { IfErr result (λ f. IsFaultBehind f (reading_of self.old) bytes.now) }
     {
@@ -312,7 +336,7 @@ impl Progress {
         ensures readable { OnOk result (IsReadable (reading_of self.new)) }
         ensures within { IfOk result (λ fed. fed.taken ≤ length bytes.now) }
         ensures all { IfOk result (λ fed. fed.token ≡ None → fed.taken ≡ length bytes.now) }
-        ensures moves { IfOk result (λ fed. IsSome fed.token → pending_word self.new.word < 2 * fed.taken + pending_word self.old.word) }
+        ensures moves { IfOk result (λ fed. IsSome fed.token → pending_word (reading_of self.new).word < 2 * fed.taken + pending_word (reading_of self.old).word) }
         ensures stands { IfOk result (λ fed. StandsOn (reading_of self.old) (reading_of self.new) (take fed.taken bytes.now) fed.token) }
         ensures fault { IfErr result (λ f. IsFaultBehind f (reading_of self.old) bytes.now) }
     {
@@ -345,8 +369,8 @@ impl Progress {
         }
         match self.word {
             None => Ok(None),
-            Some(l) => if is_whole(l) {
-                Ok(Some(self.take_number()))
+            Some(word) => if is_whole(word.state) {
+                Ok(Some(self.take_number(word.from)))
             } else {
                 Err(JsonFault::Syntax(self.at))
             },

@@ -9,7 +9,7 @@ use std::marker::Model;
 
 /// Brackets, the inmost first.
 #[derive(Debug, Drop)]
-pub struct Stack {
+pub(crate) struct Stack {
     brackets: Vec<Bracket>,
 }
 

@@ -10,7 +10,7 @@
 
 /// The two kinds of brackets (RFC 8259, section 2).
 #[derive(Clone, Copy, Debug, PartialEq, Eq)]
-pub enum Bracket {
+pub(crate) enum Bracket {
     /// Square brackets, around the items of an array.
     Array,
     /// Curly brackets, around the members of an object.
@@ -19,7 +19,7 @@ pub enum Bracket {
 
 /// A literal name (RFC 8259, section 3).
 #[derive(Clone, Copy, Debug, PartialEq, Eq)]
-pub enum Name {
+pub(crate) enum Name {
     /// `true`
     True,
     /// `false`
@@ -30,7 +30,7 @@ pub enum Name {
 
 /// What has to come next.
 #[derive(Clone, Copy, Debug, PartialEq, Eq)]
-pub enum Want {
+pub(crate) enum Want {
     /// A value.
     Value,
     /// A value, or the end of the array that has just begun.
@@ -47,7 +47,7 @@ pub enum Want {
 
 /// How far a string has come (RFC 8259, section 7).
 #[derive(Clone, Copy, Debug, PartialEq, Eq)]
-pub enum StringState {
+pub(crate) enum StringState {
     /// Between two characters.
     Plain,
     /// Inside a character of two to four bytes: the least and the greatest next byte, and how many
@@ -69,7 +69,7 @@ pub enum StringState {
 
 /// How far a word has come: what stands between white space.
 #[derive(Clone, Copy, Debug, PartialEq, Eq)]
-pub enum WordState {
+pub(crate) enum WordState {
     /// An opening bracket.
     Open(Bracket),
     /// A closing bracket.
@@ -102,7 +102,7 @@ pub enum WordState {
 
 /// A mark of a text without what it holds.
 #[derive(Clone, Copy, Debug, PartialEq, Eq)]
-pub enum Kind {
+pub(crate) enum Kind {
     /// An opening bracket.
     Opening(Bracket),
     /// A closing bracket.
@@ -119,7 +119,7 @@ pub enum Kind {
 
 /// What a mark does to the brackets around.
 #[derive(Clone, Copy, Debug, PartialEq, Eq)]
-pub enum Turn {
+pub(crate) enum Turn {
     /// They stay, and this is wanted.
     Stay(Want),
     /// One comes around.

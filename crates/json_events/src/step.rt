@@ -4,7 +4,7 @@ use crate::token::{Spanned, Token};
 
 /// Whether a word has ended by itself.
 #[derive(Debug, Drop)]
-pub enum Ended {
+pub(crate) enum Ended {
     /// It goes on, or it is a number, which ends only where something else follows.
     No,
     /// It is no token.
@@ -17,7 +17,7 @@ pub enum Ended {
 
 /// What one byte does.
 #[derive(Debug, Drop)]
-pub enum Step {
+pub(crate) enum Step {
     /// It is taken.
     Takes,
     /// It is taken and ends the token.

@@ -1,6 +1,6 @@
 //! What the reader gives.
 
-use schema::Text;
+use base::Text;
 
 /// A token of a JSON text (RFC 8259, sections 2 to 7). Commas and colons are none.
 #[derive(Debug, Drop)]

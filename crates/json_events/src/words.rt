@@ -5,7 +5,7 @@ ghost use Rattle.std.specs.Prelude.{◌<◌, slice_get, OnOk, List, ℕ, Bool, t
 ghost use Rattle.json_events.specs.WordSteps.{begin, first_held, after_int, some_digit, letter, is_digit, is_e, is_sign, more_state, is_number, mark_of, kind_state};
 ghost use Rattle.json_events.specs.WordStates.{IsOpen};
 ghost use Rattle.json_events.specs.JsonTree.{digits};
-ghost use Rattle.json_events.specs.declared.state.WordState.TheVariants.{Inside};
+ghost use Rattle.json_events.specs.declared.state.WordState.TheVariants.{Inside, Fraction, Exponent};
 ghost use Rattle.json_events.specs.declared.state.StringState.TheVariants.{Plain};
 ghost use Rattle.json_events.specs.JsonText.{spelling, is_blank};
 
@@ -14,7 +14,7 @@ use crate::state::{Bracket, Kind, Name, StringState, WordState};
 use std::alloc::AllocError;
 
 /// Space, tab, line feed or carriage return.
-pub fn is_blank(b: u8) -> bool
+pub(crate) fn is_blank(b: u8) -> bool
     ensures { result ≡ is_blank b }
 {
     b == b' ' || (b == b'\t' || (b == b'\n' || b == b'\r'))
@@ -39,7 +39,7 @@ fn is_sign(b: u8) -> bool
 }
 
 /// The word that a byte begins.
-pub fn begin(is_key: bool, b: u8) -> Option<WordState>
+pub(crate) fn begin(is_key: bool, b: u8) -> Option<WordState>
     ensures { option_map (λ l. record { state = l; is_key = is_key; held = first_held l b }) result ≡ begin is_key b }
 {
     match b {
@@ -79,7 +79,7 @@ fn some_digit(l: WordState, b: u8) -> Option<WordState>
 }
 
 /// Whether the word ends only where something else follows.
-pub fn is_number(l: WordState) -> bool
+pub(crate) fn is_number(l: WordState) -> bool
     ensures { result ≡ is_number l }
 {
     match l {
@@ -101,7 +101,7 @@ pub fn is_number(l: WordState) -> bool
 }
 
 /// What kind of a mark the word becomes.
-pub fn kind(l: WordState, is_key: bool) -> Kind
+pub(crate) fn kind(l: WordState, is_key: bool) -> Kind
     ensures { result ≡ kind_state l is_key }
 {
     match l {
@@ -146,8 +146,32 @@ fn letter(n: Name, k: u8, b: u8) -> Option<WordState>
     }
 }
 
+/// A byte behind digits behind the point.
+fn more_fraction(b: u8) -> Option<WordState>
+    ensures { result ≡ more_state Fraction b }
+{
+    if is_digit(b) {
+        Some(WordState::Fraction)
+    } else if is_e(b) {
+        Some(WordState::Exponent)
+    } else {
+        None
+    }
+}
+
+/// A byte behind the letter of an exponent.
+fn more_exponent(b: u8) -> Option<WordState>
+    ensures { result ≡ more_state Exponent b }
+{
+    if is_sign(b) {
+        Some(WordState::Sign)
+    } else {
+        some_digit(WordState::Power, b)
+    }
+}
+
 /// The word with one more byte, where it may have it.
-pub fn more(l: WordState, b: u8) -> Option<WordState>
+pub(crate) fn more(l: WordState, b: u8) -> Option<WordState>
     requires { IsOpen l }
     ensures { result ≡ more_state l b }
 {
@@ -170,25 +194,15 @@ pub fn more(l: WordState, b: u8) -> Option<WordState>
             after_int(b)
         },
         WordState::Point => some_digit(WordState::Fraction, b),
-        WordState::Fraction => if is_digit(b) {
-            Some(WordState::Fraction)
-        } else if is_e(b) {
-            Some(WordState::Exponent)
-        } else {
-            None
-        },
-        WordState::Exponent => if is_sign(b) {
-            Some(WordState::Sign)
-        } else {
-            some_digit(WordState::Power, b)
-        },
+        WordState::Fraction => more_fraction(b),
+        WordState::Exponent => more_exponent(b),
         WordState::Sign => some_digit(WordState::Power, b),
         WordState::Power => some_digit(WordState::Power, b),
     }
 }
 
 /// Keeps the first byte of a word, where it is kept.
-pub fn hold_first(held: &mut Vec<u8>, l: WordState, b: u8) -> Result<(), AllocError>
+pub(crate) fn hold_first(held: &mut Vec<u8>, l: WordState, b: u8) -> Result<(), AllocError>
     ensures { OnOk result (held.new.items ≡ first_held l b) }
 {
     held.clear();
@@ -199,7 +213,7 @@ pub fn hold_first(held: &mut Vec<u8>, l: WordState, b: u8) -> Result<(), AllocEr
 }
 
 /// Whether a word that has not ended by itself may end here.
-pub fn is_whole(l: WordState) -> bool
+pub(crate) fn is_whole(l: WordState) -> bool
     requires { IsOpen l }
     ensures { (in_key : Bool) (held : List ℕ) → mark_of l in_key held ≡ (if result then Some (digits held) else None) }
 {
@@ -216,12 +230,11 @@ pub fn is_whole(l: WordState) -> bool
 }
 
 /// Whether a string has begun and stands between two characters.
-pub fn is_plain_string(word: Option<WordState>) -> bool
-    ensures { result ≡ true → word ≡ Some (Inside Plain) }
+pub(crate) fn is_plain_string(word: WordState) -> bool
+    ensures { result ≡ true → word ≡ Inside Plain }
 {
     match word {
-        None => false,
-        Some(WordState::Inside(StringState::Plain)) => true,
-        Some(_) => false,
+        WordState::Inside(StringState::Plain) => true,
+        _ => false,
     }
 }

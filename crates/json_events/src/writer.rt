@@ -1,14 +1,15 @@
 //! Appending strings and numbers (RFC 8259, sections 6 and 7).
-ghost use Rattle.std.specs.Prelude.{ℕ, ℤ, List, ◌≡◌, ◌++◌, ◌≤◌, ◌<◌, pos, slice_index, IsTrue, length, take, decimal, IsUtf8, OnOk, OnErr};
+ghost use Rattle.std.specs.Prelude.{◌≡◌, ◌++◌, ◌≤◌, ◌<◌, pos, slice_index, IsTrue, length, take, decimal, IsUtf8, OnOk, OnErr};
 ghost use Rattle.std.specs.Char.{digit_char};
 ghost use Rattle.std.specs.Fmt.{signed_decimal};
 ghost use Rattle.json_events.specs.JsonNumbers.{DenotesInteger};
 ghost use Rattle.json_events.specs.JsonStrings.{AreCharacters, IsString};
-ghost use Rattle.json_events.specs.AppendedBytes.{Extends, Appends};
+ghost use Rattle.base.specs.Extends.{Extends};
+ghost use Rattle.json_events.specs.AppendedBytes.{Appends};
 ghost use Rattle.json_events.specs.StringOutput.{must_escape, escape_of, escaped, json_string};
 
+use base::{NoMemory, Text, cut_back};
 use itoa::Buffer;
-use schema::{NoMemory, Text};
 
 /// Appends the text as a string. Where memory is not found, `out` is as before.
 pub fn put_string(out: &mut Vec<u8>, text: &Text) -> Result<(), NoMemory>
@@ -18,10 +19,7 @@ pub fn put_string(out: &mut Vec<u8>, text: &Text) -> Result<(), NoMemory>
 {
     let len = out.len();
     let done = write_string(out, text.as_str());
-    if done.is_err() {
-        out.truncate(len);
-    }
-    done
+    cut_back(out, len, done)
 }
 
 /// Appends the characters of the text as they stand in a string, without the quotation marks around
@@ -32,11 +30,8 @@ pub fn put_characters(out: &mut Vec<u8>, text: &str) -> Result<(), NoMemory>
     ensures err { OnErr result (out.new.items ≡ out.old.items) }
 {
     let len = out.len();
-    let done = write_escaped(out, text.as_bytes());
-    if done.is_err() {
-        out.truncate(len);
-    }
-    done
+    let done = write_escaped(out, text);
+    cut_back(out, len, done)
 }
 
 /// Appends a number. Where memory is not found, `out` is as before.
@@ -59,31 +54,25 @@ pub fn put_i64(out: &mut Vec<u8>, n: i64) -> Result<(), NoMemory>
     Ok(())
 }
 
-/// A string stands for one text, which is UTF-8, and a number is one integer at most: so what the
-/// writers append means their argument and nothing else.
-pub fn texts_mean_one_value()
-    ensures strings { (s t bytes : List ℕ) → IsString s bytes → IsString t bytes → s ≡ t }
-    ensures utf8 { (text bytes : List ℕ) → IsString text bytes → IsUtf8 text }
-    ensures numbers { (y z : ℤ) (text : List ℕ) → DenotesInteger y text → DenotesInteger z text → y ≡ z }
-{}
-
 /// The same as `put_string`, but that a part may stand where memory is not found.
 fn write_string(out: &mut Vec<u8>, text: &str) -> Result<(), NoMemory>
     ensures ok { OnOk result (out.new.items ≡ out.old.items ++ json_string text.now) }
+    ensures means { OnOk result (Appends (IsString text.now) out.old.items out.new.items) }
     ensures err { OnErr result (Extends out.old.items out.new.items) }
 {
     out.push(b'"')?;
-    write_escaped(out, text.as_bytes())?;
+    write_escaped(out, text)?;
     out.push(b'"')?;
     Ok(())
 }
 
 /// The same as `put_characters`, but that a part may stand where memory is not found.
-fn write_escaped(out: &mut Vec<u8>, text: &[u8]) -> Result<(), NoMemory>
+fn write_escaped(out: &mut Vec<u8>, text: &str) -> Result<(), NoMemory>
     ensures ok { OnOk result (out.new.items ≡ out.old.items ++ escaped text.now) }
+    ensures means { OnOk result (Appends (AreCharacters text.now) out.old.items out.new.items) }
     ensures err { OnErr result (Extends out.old.items out.new.items) }
 {
-    let mut rest = text;
+    let mut rest = text.as_bytes();
     'pieces: loop {
         let (plain, behind) = rest.split_at(unescaped_len(rest));
         out.extend_from_slice(plain)?;

@@ -59,6 +59,7 @@ rise_step e es after low k i Greater p l r h = (l, (ap is_lt (key_back k e.0 ∙
 lt_of : (x c : Ordering) → x ≡ c → c ≡ Less → is_lt x ≡ true
 lt_of x c h e = ap is_lt (h ∙ e)
 
+-- keys that rise from a key still do with an item under a later one
 pub KeysRiseFrom-with_item : (es : List (Key × Item)) (low k : Key) (i : Item) → is_lt (key_cmp low k) ≡ true → KeysRiseFrom low es → KeysRiseFrom low (with_item es k i)
 KeysRiseFrom-with_item [] low k i l r = (l, tt)
 KeysRiseFrom-with_item (e ∷ es) low k i l r =

@@ -1,6 +1,5 @@
-pub mod formers
 pub mod Value
-pub mod SlotPlaces
+pub mod SlotSearch
 pub mod Pairs
 pub mod KeyOrder
 pub mod Layers

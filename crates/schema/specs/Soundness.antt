@@ -1,5 +1,5 @@
 -- Which types are sound: what a descriptor set that protoc accepts can declare (descriptor.proto).
-use Rattle.std.specs.Prelude.{◌≡◌, ◌≢◌, ◌<◌, ◌≤◌, ◌||◌, ℕ, Bool, true, false, List, [], length, map, codes, nat_eq, Option, Some, None}
+use Rattle.std.specs.Prelude.{◌≡◌, ◌≢◌, ◌<◌, ◌≤◌, ◌||◌, ℕ, Bool, true, false, IsTrue, List, [], length, map, codes, nat_eq, Option, Some, None}
 use Rattle.std.specs.List.{AllByRecursion}
 use Rattle.std.specs.Str.{bytes_eq}
 use Rattle.schema.specs.Apart.{AreApart}
@@ -36,11 +36,15 @@ IsKeyKind (Enumeration id) = ⊥
 IsKeyKind BytesOf = ⊥
 IsKeyKind _ = Unit {0}
 
--- a list of this kind can be packed: all scalars but strings and bytes
+-- a list of this scalar kind can be packed: all but strings and bytes
+abbrev pub is_packable : Scalar → Bool
+is_packable TextOf = false
+is_packable BytesOf = false
+is_packable _ = true
+
+-- a list of this kind can be packed
 abbrev pub IsPackable : Kind → Type 0
-IsPackable (One TextOf) = ⊥
-IsPackable (One BytesOf) = ⊥
-IsPackable (One _) = Unit {0}
+IsPackable (One s) = IsTrue (is_packable s)
 IsPackable (Message id) = ⊥
 
 -- what the shape of a field asks of its presence, and of a map the kind of its keys

@@ -1,12 +1,9 @@
 //! Equal values, in memory of their own.
 ghost use Rattle.std.specs.Prelude.{◌≡◌, IfOk};
 
-use crate::blob::Blob;
 use crate::key::Key;
-use crate::list::List;
-use crate::no_memory::NoMemory;
-use crate::text::Text;
 use crate::value::{Item, Pairs, Slot, Value};
+use base::{Blob, List, NoMemory, Text};
 use std::alloc::Global;
 
 impl Item {

@@ -5,8 +5,7 @@ ghost use Rattle.std.specs.Ordering.{eq_by_cmp};
 ghost use Rattle.schema.specs.KeyOrder.{key_order};
 ghost use Rattle.schema.specs.Pairs.{key_cmp};
 
-use crate::no_memory::NoMemory;
-use crate::text::Text;
+use base::{NoMemory, Text};
 use std::alloc::Global;
 use std::cmp::Ordering;
 

@@ -4,27 +4,20 @@
 //! here reads or writes bytes of the wire format or JSON. Begin with `Value` and `Types`.
 #![tactic(auto)]
 
-mod blob;
 mod copies;
-mod field_pair;
 mod key;
-mod list;
-mod no_memory;
+mod limits;
 mod pairs;
 mod soundness;
-mod text;
 mod types;
 mod validity;
 mod value;
 
-pub use blob::Blob;
-pub use field_pair::FieldPair;
+pub use base::{Blob, FieldPair, List, NoMemory, Text};
 pub use key::Key;
-pub use list::List;
-pub use no_memory::NoMemory;
+pub use limits::{MAX_FIELD_NUMBER, MAX_LEVELS};
 pub use pairs::PairIter;
-pub use soundness::sound;
-pub use text::Text;
+pub use soundness::{is_packable, sound};
 pub use types::enums::{EnumId, EnumType, EnumValue};
 pub use types::fields::{Field, Kind, Presence, Scalar, Shape};
 pub use types::lookup::find_field;

@@ -5,20 +5,19 @@ ghost use Rattle.std.specs.Ordering.{is_eq as is_eq_order};
 ghost use Rattle.std.specs.Iterator.{at_most};
 ghost use Rattle.std.specs.Map.Iter.{TakesFirst, deref_pair};
 ghost use Rattle.schema.specs.Pairs.{entries_of, item_at, key_cmp, with_item, KeysRise};
-ghost use Rattle.schema.specs.SlotPlaces.{key_place_in};
+ghost use Rattle.schema.specs.SlotSearch.{key_search_in};
 ghost use Rattle.schema.specs.declared.key.Key.{Key as KeyOf};
 
 use crate::key::Key;
-use crate::list::List;
-use crate::no_memory::NoMemory;
 use crate::value::{Item, Pairs};
+use base::{List, NoMemory};
 use std::alloc::Global;
 use std::cmp::Ordering;
 use std::marker::Model;
 
-/// The place of a key, or where it would stand.
-fn place_of(entries: &[(Key, Item)], key: &Key) -> Result<usize, usize>
-    ensures { result ≡ key_place_in entries.now key.now }
+/// The index of a key, or that at which it would stand.
+fn search(entries: &[(Key, Item)], key: &Key) -> Result<usize, usize>
+    ensures { result ≡ key_search_in entries.now key.now }
 {
     for (i, (k, _)) in entries.iter().enumerate() {
         match k.cmp(key) {
@@ -30,13 +29,13 @@ fn place_of(entries: &[(Key, Item)], key: &Key) -> Result<usize, usize>
     Err(entries.len())
 }
 
-/// Replaces one item, or puts it into its place.
-#[tactic(auto, using(crate::proofs::KeyPlaceLemmas::found_below, crate::proofs::KeyPlaceLemmas::found_set, crate::proofs::KeyPlaceLemmas::gap_within, crate::proofs::KeyPlaceLemmas::gap_insert))]
+/// Replaces one item, or puts it where it belongs.
+#[tactic(auto, using(crate::proofs::KeySearchLemmas::found_below, crate::proofs::KeySearchLemmas::found_set, crate::proofs::KeySearchLemmas::gap_within, crate::proofs::KeySearchLemmas::gap_insert))]
 fn put_entry(entries: &mut List<(Key, Item)>, key: Key, item: Item) -> Result<(), NoMemory>
     ensures ok { OnOk result (entries.new ≡ with_item entries.old key item) }
     ensures err { OnErr result (entries.new ≡ entries.old) }
 {
-    match place_of(entries.as_slice(), &key) {
+    match search(entries.as_slice(), &key) {
         Ok(at) => {
             entries.set(at, (key, item));
             Ok(())

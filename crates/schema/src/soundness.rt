@@ -2,8 +2,9 @@
 ghost use Rattle.std.specs.Prelude.{◌≡◌, ◌↔◌, IsTrue};
 ghost use Rattle.std.specs.List.{AllByRecursion};
 ghost use Rattle.std.specs.Option.{option_copied};
-ghost use Rattle.schema.specs.Soundness.{IsScalarIn, IsKindIn, IsKeyKind, IsPackable, FitsShape, FitsPacked, IsSoundField, share_key as share_key_of, IsFreeNumber, AreNumbersApart, IsFreeKey, AreKeysApart, IsFreeName, AreNamesApart, HasKnownForm, IsKnownField, IsWrapped, IsValueField, HasSecondsAndNanos, HasKnownFields, IsSoundMessage, IsSoundEnum, IsSound};
+ghost use Rattle.schema.specs.Soundness.{IsScalarIn, IsKindIn, IsKeyKind, IsPackable, is_packable as is_packable_scalar, FitsShape, FitsPacked, IsSoundField, share_key as share_key_of, IsFreeNumber, AreNumbersApart, IsFreeKey, AreKeysApart, IsFreeName, AreNamesApart, HasKnownForm, IsKnownField, IsWrapped, IsValueField, HasSecondsAndNanos, HasKnownFields, IsSoundMessage, IsSoundEnum, IsSound};
 
+use crate::limits::MAX_FIELD_NUMBER;
 use crate::types::enums::{EnumType, EnumValue};
 use crate::types::fields::{Field, Kind, Presence, Scalar, Shape};
 use crate::types::lookup::find_field;
@@ -40,14 +41,24 @@ fn is_key_kind(scalar: Scalar) -> bool
     }
 }
 
+/// True where a list of the scalar kind can be packed: all but strings and bytes can (the encoding
+/// guide, "Packed Repeated Fields").
+pub fn is_packable(scalar: Scalar) -> bool
+    ensures { result ≡ is_packable_scalar scalar }
+{
+    match scalar {
+        Scalar::Text => false,
+        Scalar::Bytes => false,
+        _ => true,
+    }
+}
+
 /// True where a list of the kind can be packed.
-fn is_packable(kind: Kind) -> bool
+fn is_packable_kind(kind: Kind) -> bool
     ensures { IsTrue result ↔ IsPackable kind }
 {
     match kind {
-        Kind::One(Scalar::Text) => false,
-        Kind::One(Scalar::Bytes) => false,
-        Kind::One(_) => true,
+        Kind::One(scalar) => is_packable(scalar),
         Kind::Message(_) => false,
     }
 }
@@ -69,7 +80,7 @@ fn fits_shape(shape: Shape, kind: Kind, presence: Presence) -> bool
 fn fits_packed(field: &Field) -> bool
     ensures { IsTrue result ↔ FitsPacked field.now }
 {
-    !field.packed || (field.shape == Shape::Many && is_packable(field.kind))
+    !field.packed || (field.shape == Shape::Many && is_packable_kind(field.kind))
 }
 
 /// True where one field is sound.
@@ -77,7 +88,7 @@ fn is_sound_field(types: &Types, field: &Field) -> bool
     ensures { IsTrue result ↔ IsSoundField types.now field.now }
 {
     1 <= field.number
-        && field.number <= 536_870_911
+        && field.number <= MAX_FIELD_NUMBER
         && is_kind_in(types, field.kind)
         && fits_shape(field.shape, field.kind, field.presence)
         && fits_packed(field)

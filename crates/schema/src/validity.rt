@@ -11,6 +11,7 @@ ghost use Rattle.schema.specs.declared.value.Item.{out-Item};
 ghost use Rattle.schema.specs.declared.value.Slot.{out-Slot};
 
 use crate::key::Key;
+use crate::limits::MAX_LEVELS;
 use crate::types::fields::{Field, Kind, Presence, Scalar, Shape};
 use crate::types::lookup::find_field;
 use crate::types::messages::{TypeId, Types};
@@ -293,5 +294,5 @@ fn are_oneofs_apart(fields: &[Field], slots: &[(u32, Slot)]) -> bool
 pub fn valid(types: &Types, id: TypeId, value: &Value) -> bool
     ensures { IsTrue result ↔ IsValid types.now id value.now }
 {
-    is_message(types, id, value, 100)
+    is_message(types, id, value, MAX_LEVELS)
 }

@@ -2,14 +2,11 @@
 //! itself. Contracts see the fields by `slot_at`, and the order of the numbers by `RiseFrom`.
 ghost use Rattle.std.specs.Prelude.{◌≡◌, ◌≢◌, ◌==◌, ◌<◌, ℕ, [], if◌then◌else◌, OnOk, OnErr};
 ghost use Rattle.std.specs.Option.{option_copied};
-ghost use Rattle.schema.specs.SlotPlaces.{place_in, first_in};
+ghost use Rattle.schema.specs.SlotSearch.{search_in, first_in};
 ghost use Rattle.schema.specs.Value.{slots_of, slot_at, slot_in, RiseFrom, with_slot, without_slot};
 
-use crate::blob::Blob;
 use crate::key::Key;
-use crate::list::List;
-use crate::no_memory::NoMemory;
-use crate::text::Text;
+use base::{Blob, List, NoMemory, Text};
 use std::alloc::Global;
 
 /// One value of a field.
@@ -54,9 +51,9 @@ pub struct Value {
     pub(crate) fields: List<(u32, Slot)>,
 }
 
-/// The place of a number, or where it would stand.
-fn place_of(fields: &[(u32, Slot)], number: u32) -> Result<usize, usize>
-    ensures { result ≡ place_in fields.now number }
+/// The index of a number, or that at which it would stand.
+fn search(fields: &[(u32, Slot)], number: u32) -> Result<usize, usize>
+    ensures { result ≡ search_in fields.now number }
 {
     for (i, (n, _)) in fields.iter().enumerate() {
         if *n == number {
@@ -69,7 +66,7 @@ fn place_of(fields: &[(u32, Slot)], number: u32) -> Result<usize, usize>
     Err(fields.len())
 }
 
-/// The place of a number.
+/// The index of a number.
 fn position_of(fields: &[(u32, Slot)], number: u32) -> Option<usize>
     ensures { result ≡ first_in fields.now number }
 {
@@ -81,13 +78,13 @@ fn position_of(fields: &[(u32, Slot)], number: u32) -> Option<usize>
     None
 }
 
-/// Replaces one slot, or puts it into its place.
-#[tactic(auto, using(crate::proofs::PlaceLemmas::found_below, crate::proofs::PlaceLemmas::found_set, crate::proofs::PlaceLemmas::gap_within, crate::proofs::PlaceLemmas::gap_insert))]
+/// Replaces one slot, or puts it where it belongs.
+#[tactic(auto, using(crate::proofs::SearchLemmas::found_below, crate::proofs::SearchLemmas::found_set, crate::proofs::SearchLemmas::gap_within, crate::proofs::SearchLemmas::gap_insert))]
 fn put(fields: &mut List<(u32, Slot)>, number: u32, slot: Slot) -> Result<(), NoMemory>
     ensures ok { OnOk result (fields.new ≡ with_slot fields.old number slot) }
     ensures err { OnErr result (fields.new ≡ fields.old) }
 {
-    match place_of(fields.as_slice(), number) {
+    match search(fields.as_slice(), number) {
         Ok(at) => {
             fields.set(at, (number, slot));
             Ok(())
@@ -97,7 +94,7 @@ fn put(fields: &mut List<(u32, Slot)>, number: u32, slot: Slot) -> Result<(), No
 }
 
 /// Removes one slot, if it is there, and gives it.
-#[tactic(auto, using(crate::proofs::PlaceLemmas::position_is, crate::proofs::PlaceLemmas::first_remove))]
+#[tactic(auto, using(crate::proofs::SearchLemmas::position_is, crate::proofs::SearchLemmas::first_remove))]
 fn remove(fields: &mut List<(u32, Slot)>, number: u32) -> Option<Slot>
     ensures slot { result ≡ slot_in fields.old number }
     ensures fields { fields.new ≡ without_slot fields.old number }

@@ -1,20 +1,13 @@
-pub mod CountLemmas
-pub mod FieldLemmas
-pub mod FirstFaults
-pub mod FirstItems
-pub mod KnownFields
-pub mod LawfulFields
-pub mod LinkedPlaces
-pub mod NameLemmas
+-- What lists of faults say where they are empty, of fields, enums, keys and numbers.
 pub mod NoFaults
-pub mod PlaceLemmas
-pub mod ScalarTypes
-pub mod ServedLemmas
-pub mod SoundEnums
-pub mod SoundFields
-pub mod SoundKeys
-pub mod SoundNumbers
-pub mod SoundTypes
-pub mod StandardFacts
-pub mod TemplateLemmas
+pub mod LawfulEnums
 pub mod TypedFields
+pub mod EntryKeys
+pub mod LawfulFields
+pub mod ApartNumbers
+pub mod ApartKeys
+-- A set without faults is linkable, so what is linked of it is sound.
+pub mod LinkableSets
+-- What is linked of methods and of templates.
+pub mod ServedLemmas
+pub mod TemplateLemmas

@@ -7,12 +7,12 @@ use Rattle.descriptor_pool.specs.DeclaredNames.{DeclaredMessage, declarations}
 use Rattle.descriptor_pool.specs.DeclaredTypes.{SetTypes, types_in}
 use Rattle.descriptor_pool.specs.ReachableTypes.{Joined, reachable}
 use Rattle.descriptor_pool.specs.SetMethods.{bound_methods}
-use Rattle.schema_link.specs.LinkFaults.{fault_if}
-use Rattle.schema_link.specs.MessageFaults.{joined_faults, message_faults}
-use Rattle.schema_link.specs.MethodFaults.{methods_faults}
-use Rattle.schema_link.specs.NameFaults.{double_names, no_route, too_many}
-use Rattle.schema_link.specs.SetFaults.{faults}
-use Rattle.schema_link.specs.declared.fault.LinkFault.{LinkFault}
+use Rattle.set_faults.specs.LinkFaults.{fault_if}
+use Rattle.set_faults.specs.MessageFaults.{joined_faults, message_faults}
+use Rattle.set_faults.specs.MethodFaults.{methods_faults}
+use Rattle.set_faults.specs.NameFaults.{double_names, no_route, too_many}
+use Rattle.set_faults.specs.SetFaults.{faults}
+use Rattle.set_faults.specs.declared.fault.LinkFault.{LinkFault}
 
 -- where joined lists are empty, each is
 pub none_parts : (a b : List LinkFault) → a ++ b ≡ [] → (a ≡ []) × (b ≡ [])

@@ -4,35 +4,41 @@ use Rattle.std.proofs.lemmas.Bool.Decides.{nat_tests}
 use Rattle.std.proofs.lemmas.List.{length-take}
 use Rattle.std.proofs.lemmas.List.Sums.{sum_by-cons}
 use Rattle.std.specs.List.{flat_map}
-use Rattle.http_rules.proofs.AnswerLemmas.{one_meaning}
+use Rattle.http_rules.specs.Template.{IsTemplateText}
 use Rattle.http_rules.specs.declared.template.Template.{Template}
 use Rattle.std.specs.Prelude.{codes}
 use Rattle.descriptor_set.specs.declared.file_set.FileSet.{FileSet}
-use Rattle.schema.specs.declared.no_memory.NoMemory.{NoMemory}
+use Rattle.base.specs.declared.no_memory.NoMemory.{NoMemory}
 use Rattle.descriptor_pool.specs.DeclaredNames.{Declaration, File, Message, Enum, Service, Extension, is_type}
 use Rattle.descriptor_pool.specs.DeclaredTypes.{SetTypes, enum_in, message_in, types_in}
-use Rattle.schema_link.specs.LinkFaults.{IsFirst, fault_if}
-use Rattle.schema_link.specs.NameFaults.{too_many}
+use Rattle.set_faults.specs.LinkFaults.{IsFirst, fault_if}
+use Rattle.set_faults.specs.NameFaults.{too_many}
 use Rattle.descriptor_pool.specs.ReachableTypes.{Joined, once, queue, reachable, taken}
 use Rattle.schema_link.specs.ServedTemplates.{IsTemplateOf}
 use Rattle.schema_link.specs.SetApi.{HasNoString, IsLinkOf, IsApiOf, IsServed, IsServedWith, field_named, get_of, input_fields, only_method}
-use Rattle.schema_link.specs.SetFaults.{all_faults, faults}
+use Rattle.set_faults.specs.SetFaults.{all_faults, faults}
 use Rattle.descriptor_pool.specs.SetMethods.{BoundMethod}
 use Rattle.schema_link.specs.declared.api.Api.{Api}
-use Rattle.schema_link.specs.declared.fault.LinkFault.{LinkFault}
-use Rattle.schema_link.specs.declared.fault.LinkFault.TheVariants.{At, NoMemory as no_memory}
-use Rattle.schema_link.specs.declared.fault.LinkKind.TheVariants.{NotBuilt}
+use Rattle.set_faults.specs.declared.fault.LinkFault.{LinkFault}
+use Rattle.set_faults.specs.declared.fault.LinkFault.TheVariants.{At, NoMemory as no_memory}
+use Rattle.set_faults.specs.declared.fault.LinkKind.TheVariants.{NotBuilt}
 
--- a text is a template with one name at most
-pub same_name : (text : List ℕ) (t u : Template) (a b : List ℕ) → IsTemplateOf text t a → IsTemplateOf text u b → a ≡ b
-same_name text t u a b h k =
+-- a text is a template with one name at most, where it means one template at most
+pub same_name : ((text : List ℕ) (t u : Template) → IsTemplateText text t → IsTemplateText text u → t ≡ u)
+    → (text : List ℕ) (t u : Template) (a b : List ℕ) → IsTemplateOf text t a → IsTemplateOf text u b → a ≡ b
+same_name one_meaning text t u a b h k =
     let same = one_meaning text t u h.means k.means in
     let variables : h.variable ∷ [] ≡ k.variable ∷ [] = sym h.one ∙ ap (λ z. z.variables) same ∙ k.one in
     let variable : h.variable ≡ k.variable = cc (variables) in
     let paths : a ∷ [] ≡ b ∷ [] = sym h.named ∙ ap (λ z. z.path) variable ∙ k.named in
     cc (paths)
 
+-- a text is a template with one name at most
+abbrev pub HasOneName : Type 0
+HasOneName = (text : List ℕ) (t u : Template) (a b : List ℕ) → IsTemplateOf text t a → IsTemplateOf text u b → a ≡ b
+
 module _ (types : SetTypes) (ms : List BoundMethod) where
+  -- where the text of the one method is no template of the form, nothing is linked
   pub no_template : (m : BoundMethod) (text : List ℕ) → only_method ms ≡ Some m → get_of m.rule ≡ Some text
       → ((t : Template) (name : List ℕ) → IsTemplateOf text t name → ⊥) → (api : Api) → IsServed types ms api → ⊥
   no_template m text h g n api s =
@@ -41,26 +47,26 @@ module _ (types : SetTypes) (ms : List BoundMethod) where
       let texts : s.text ≡ text = cc (g, found) in
       n s.template s.name (subst (λ z. IsTemplateOf z s.template s.name) texts s.template_is)
 
-  no_field : (m : BoundMethod) (text : List ℕ) (t : Template) (name : List ℕ) → only_method ms ≡ Some m → get_of m.rule ≡ Some text → IsTemplateOf text t name
+  no_field : HasOneName → (m : BoundMethod) (text : List ℕ) (t : Template) (name : List ℕ) → only_method ms ≡ Some m → get_of m.rule ≡ Some text → IsTemplateOf text t name
       → HasNoString types (reachable types ms) m name → (api : Api) → IsServed types ms api → ⊥
-  no_field m text t name h g k n api s =
+  no_field one m text t name h g k n api s =
       let same : s.method ≡ m = cc (h, s.method_is) in
       let found : get_of m.rule ≡ Some s.text = ap (λ z. get_of z.rule) (sym same) ∙ s.text_is in
       let texts : s.text ≡ text = cc (g, found) in
       let own = subst (λ z. IsTemplateOf z s.template s.name) texts s.template_is in
-      let names : s.name ≡ name = same_name text s.template t s.name name own k in
+      let names : s.name ≡ name = one text s.template t s.name name own k in
       let is = s.served_is.number_is in
       let here = subst (λ z. field_named (input_fields types (reachable types ms) z) s.name ≡ Some is.field) same is.field_is in
       n is.field (subst (λ z. field_named (input_fields types (reachable types ms) m) z ≡ Some is.field) names here) is.single
 
   -- what is linked of the one method with its template is what is linked of the methods
-  pub method_serves : (m : BoundMethod) (text : List ℕ) (t : Template) (name : List ℕ) (js : List Joined) (r : Result (Option Api) NoMemory)
+  pub method_serves : HasOneName → (m : BoundMethod) (text : List ℕ) (t : Template) (name : List ℕ) (js : List Joined) (r : Result (Option Api) NoMemory)
       → only_method ms ≡ Some m → get_of m.rule ≡ Some text → IsTemplateOf text t name → js ≡ reachable types ms
       → IfOk r (λ o. MatchOption o (HasNoString types js m name) (λ api. IsServedWith types js m t name api))
       → IfOk r (λ o. MatchOption o ((api : Api) → IsServed types ms api → ⊥) (λ api. IsServed types ms api))
-  method_serves m text t name js (Err e) h g k e' f = tt
-  method_serves m text t name js (Ok None) h g k e' f = no_field m text t name h g k (subst (λ z. HasNoString types z m name) e' f)
-  method_serves m text t name js (Ok (Some api)) h g k e' f = record {
+  method_serves one m text t name js (Err e) h g k e' f = tt
+  method_serves one m text t name js (Ok None) h g k e' f = no_field one m text t name h g k (subst (λ z. HasNoString types z m name) e' f)
+  method_serves one m text t name js (Ok (Some api)) h g k e' f = record {
     method = m;
     method_is = h;
     text = text;

@@ -1,13 +1,7 @@
 pub use Rattle.http_rules.specs.PercentDecoding
 pub use Rattle.http_rules.specs.Template
-pub mod KeySteps
-pub mod LinkFaults
-pub mod LinkedTypes
-pub mod MessageFaults
-pub mod MethodFaults
-pub mod NameFaults
-pub mod PlaceSteps
-pub mod RealNumbers
+pub use Rattle.linked_types.specs.LinkedTypes
+pub use Rattle.set_faults.specs.LinkFaults
+pub use Rattle.set_faults.specs.SetFaults
 pub mod ServedTemplates
 pub mod SetApi
-pub mod SetFaults

@@ -16,16 +16,16 @@ use Rattle.schema.specs.declared.types.fields.Shape.TheVariants.{Single}
 use Rattle.schema.specs.declared.types.messages.TypeId.{TypeId}
 use Rattle.descriptor_pool.specs.DeclaredNames.{declarations}
 use Rattle.descriptor_pool.specs.DeclaredTypes.{SetTypes, message_named, types_in}
-use Rattle.schema_link.specs.LinkedTypes.{linked_types, place_in}
+use Rattle.linked_types.specs.LinkedTypes.{linked_types, index_in}
 use Rattle.descriptor_pool.specs.ReachableTypes.{Joined, reachable}
 use Rattle.schema_link.specs.ServedTemplates.{IsTemplateOf}
-use Rattle.schema_link.specs.SetFaults.{faults}
+use Rattle.set_faults.specs.SetFaults.{faults}
 use Rattle.descriptor_pool.specs.SetMethods.{BoundMethod, additional_rules, bound_methods}
-use Rattle.schema_link.specs.LinkFaults.{first_fault}
+use Rattle.set_faults.specs.LinkFaults.{first_fault}
 use Rattle.schema_link.specs.declared.api.Api.{Api}
-use Rattle.schema_link.specs.declared.fault.LinkFault.{LinkFault}
-use Rattle.schema_link.specs.declared.fault.LinkFault.TheVariants.{At, NoMemory}
-use Rattle.schema_link.specs.declared.fault.LinkKind.TheVariants.{NotBuilt}
+use Rattle.set_faults.specs.declared.fault.LinkFault.{LinkFault}
+use Rattle.set_faults.specs.declared.fault.LinkFault.TheVariants.{At, NoMemory}
+use Rattle.set_faults.specs.declared.fault.LinkKind.TheVariants.{NotBuilt}
 
 -- the template of a pattern that is a GET
 abbrev pub get_pattern : Option PatternInfo → Option (List ℕ)
@@ -42,6 +42,7 @@ get_of rule =
 abbrev pub unary_if : BoundMethod → Option BoundMethod
 unary_if m = if m.client_streams || m.server_streams then None else Some m
 
+-- the one method of a set that has one, where neither side streams
 abbrev pub only_method : List BoundMethod → Option BoundMethod
 only_method (m ∷ []) = unary_if m
 only_method _ = None
@@ -66,7 +67,7 @@ pub record IsNumberOf (fs : List Field) (name : List ℕ) (number : ℕ) : Type 
 
 -- the number of the message that a type name names, among those that are reached
 abbrev pub id_of : SetTypes → List Joined → List ℕ → TypeId
-id_of types js name = record { 0 = place_in (map (λ (j : Joined). j.message) js) (unwrap_or (message_named types name) 0) }
+id_of types js name = record { 0 = index_in (map (λ (j : Joined). j.message) js) (unwrap_or (message_named types name) 0) }
 
 -- what is linked of a method with this template, whose variable sets the field of this number
 abbrev pub served : SetTypes → List Joined → BoundMethod → Template → ℕ → Api

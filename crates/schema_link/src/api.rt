@@ -1,7 +1,8 @@
 //! A linked descriptor set.
 
+use base::{List, Text};
 use http_rules::Binding;
-use schema::{List, Text, TypeId, Types};
+use schema::{TypeId, Types};
 
 /// A method that is bound.
 #[derive(Debug, Drop)]

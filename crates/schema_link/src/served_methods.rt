@@ -2,19 +2,21 @@
 ghost use Rattle.std.specs.Prelude.{◌≡◌, ◌<◌, ◌^◌, ◌↔◌, [], ◌∷◌, codes, length, map, IfOk, IsTrue, MatchOption};
 ghost use Rattle.std.specs.Option.{option_copied};
 ghost use Rattle.schema.specs.Types.{fields_of};
-ghost use Rattle.schema_link.specs.LinkedTypes.{place_in};
+ghost use Rattle.linked_types.specs.LinkedTypes.{index_in};
 ghost use Rattle.descriptor_pool.specs.ReachableTypes.{Joined as JoinedOf, reachable};
 ghost use Rattle.schema_link.specs.SetApi.{HasNoString, IsNumberOf, IsServed, IsServedWith, IsSingleString, field_named, get_of, id_of, only_method};
 ghost use Rattle.schema.specs.declared.types.fields.Field.{Field as FieldOf};
 ghost use Rattle.schema_link.specs.declared.api.Api.{Api as Linked};
 
 use crate::api::{Api, MethodInfo};
-use crate::linked_types::linked_types;
+use crate::laws::a_text_has_one_name;
 use crate::templates::{Named, template_of};
+use base::{List, NoMemory, Text};
 use descriptor_pool::{BoundMethod, Joined, SetTypes};
 use descriptor_set::{HttpInfo, PatternInfo};
 use http_rules::{Binding, Body, Template};
-use schema::{Field, Kind, List, NoMemory, Presence, Scalar, Shape, Text, TypeId, Types};
+use linked_types::linked_types;
+use schema::{Field, Kind, Presence, Scalar, Shape, TypeId, Types};
 use std::alloc::Global;
 
 /// The method of a set that has one, where neither side streams.
@@ -69,10 +71,10 @@ fn field_named<'a>(fields: &'a [Field], name: &str) -> Option<&'a Field>
     None
 }
 
-/// The place of a message among those that are reached, or 0.
-fn place_in(reached: &[Joined<'_>], index: usize) -> u32
+/// Where a message stands among those that are reached, or 0.
+fn index_in(reached: &[Joined<'_>], index: usize) -> u32
     requires { length reached.now < 2 ^ 32 }
-    ensures { result ≡ place_in (map (λ (j : JoinedOf). j.message) reached.now) index }
+    ensures { result ≡ index_in (map (λ (j : JoinedOf). j.message) reached.now) index }
 {
     for (at, joined) in reached.iter().enumerate() {
         if index == joined.message {
@@ -87,7 +89,7 @@ fn id_of(types: &SetTypes<'_>, reached: &[Joined<'_>], type_name: &str) -> TypeI
     requires { length reached.now < 2 ^ 32 }
     ensures { result ≡ id_of types.now reached.now type_name.now }
 {
-    TypeId(place_in(reached, types.message_named(type_name).unwrap_or(0)))
+    TypeId(index_in(reached, types.message_named(type_name).unwrap_or(0)))
 }
 
 /// The methods of an API with one.
@@ -190,6 +192,7 @@ pub(crate) fn served_api(
     requires enums { length types.now.enums < 2 ^ 32 }
     ensures { IfOk result (λ o. MatchOption o ((api : Linked) → IsServed types.now methods.now api → ⊥) (λ api. IsServed types.now methods.now api)) }
 {
+    a_text_has_one_name();
     let Some(method) = only_method(methods) else {
         return Ok(None);
     };

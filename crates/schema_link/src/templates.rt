@@ -4,12 +4,13 @@ ghost use Rattle.std.specs.Prelude.{◌≡◌, ◌<◌, ◌↔◌, ◌∷◌, []
 ghost use Rattle.std.specs.List.{AllByRecursion};
 ghost use Rattle.schema_link.specs.ServedTemplates.{is_one_segment, IsPlainTemplate, IsTemplateOf};
 ghost use Rattle.http_rules.specs.PercentDecoding.{variable_segments};
-ghost use Rattle.http_rules.specs.Template.{IsTemplate, IsTemplateText, IsWithinLimits};
+ghost use Rattle.http_rules.specs.Template.{AreRanges, IsTemplate, IsTemplateText, IsWithinLimits};
 ghost use Rattle.http_rules.specs.declared.template.Segment.TheVariants.{One as one};
 ghost use Rattle.http_rules.specs.declared.template.Template.{Template as TemplateOf};
 
+use base::{NoMemory, Text};
+use http_rules::laws::{one_meaning, ranges_are_in_order};
 use http_rules::{Segment, Template, TemplateFault, Variable, parse_template};
-use schema::{NoMemory, Text};
 use std::alloc::Global;
 
 /// True for a literal and for `*`.
@@ -39,6 +40,7 @@ fn are_one_segments(segments: &[Segment]) -> bool
 #[tactic(auto, using(crate::proofs::TemplateLemmas::wildcard_range))]
 fn takes_wildcard(template: &Template, variable: &Variable) -> bool
     requires template { IsTemplate template.now }
+    requires ranges { AreRanges 0 template.now.variables (length template.now.segments) }
     requires one { template.now.variables ≡ variable.now ∷ [] }
     ensures { IsTrue result ↔ (variable_segments template.now.segments (Some variable.now) ≡ one ∷ []) }
 {
@@ -78,11 +80,12 @@ fn is_plain(text: &[u8], template: &Template) -> bool
 }
 
 /// The name of the field that the variable of a template sets, where the template is of the form.
-pub(crate) fn name_of<'a>(text: &[u8], template: &'a Template) -> Option<&'a Text>
+fn name_of<'a>(text: &[u8], template: &'a Template) -> Option<&'a Text>
     requires means { IsTemplateText text.now template.now }
     requires within { IsWithinLimits template.now }
     ensures { MatchOption result ((name : List ℕ) → IsTemplateOf text.now template.now name → ⊥) (λ name. IsTemplateOf text.now template.now name.now) }
 {
+    ranges_are_in_order();
     if !is_plain(text, template) {
         return None;
     }
@@ -110,6 +113,7 @@ pub(crate) struct Named {
 pub(crate) fn template_of(alloc: Global, text: &str) -> Result<Option<Named>, NoMemory>
     ensures { IfOk result (λ o. MatchOption o ((t : TemplateOf) (name : List ℕ) → IsTemplateOf text.now t name → ⊥) (λ n. IsTemplateOf text.now n.template n.name)) }
 {
+    one_meaning();
     match parse_template(alloc, text) {
         Ok(template) => match name_of(text.as_bytes(), &template) {
             Some(name) => {

@@ -1,7 +1,7 @@
 //! Header blocks.
 
+use base::NoMemory;
 use hpack_codec::{Decoder, Fields};
-use schema::NoMemory;
 use std::alloc::Global;
 
 /// `grpc-status: www.example.com`, ten times, as literals with Huffman-coded values of RFC 7541, appendix C.4.1.

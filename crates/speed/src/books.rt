@@ -1,9 +1,7 @@
 //! Messages of books.
 
-use schema::{
-    Field, Kind, Known, List, MessageType, NoMemory, Presence, Scalar, Shape, Text, TypeId, Types,
-    valid,
-};
+use base::{List, NoMemory, Text};
+use schema::{Field, Kind, Known, MessageType, Presence, Scalar, Shape, TypeId, Types, valid};
 use std::alloc::Global;
 use wire_format::{decode, encode};
 
@@ -33,6 +31,34 @@ fn add(
     })
 }
 
+fn add_text(
+    alloc: Global,
+    fields: &mut List<Field>,
+    number: u32,
+    shape: Shape,
+) -> Result<(), NoMemory> {
+    add(alloc, fields, number, Kind::One(Scalar::Text), shape)
+}
+
+fn add_number(
+    alloc: Global,
+    fields: &mut List<Field>,
+    number: u32,
+    scalar: Scalar,
+    shape: Shape,
+) -> Result<(), NoMemory> {
+    add(alloc, fields, number, Kind::One(scalar), shape)
+}
+
+fn add_message(
+    alloc: Global,
+    fields: &mut List<Field>,
+    number: u32,
+    id: TypeId,
+) -> Result<(), NoMemory> {
+    add(alloc, fields, number, Kind::Message(id), Shape::Single)
+}
+
 fn message(alloc: Global, name: &str, fields: List<Field>) -> Result<MessageType, NoMemory> {
     Ok(MessageType {
         name: Text::copy_of(alloc, name)?,
@@ -41,52 +67,28 @@ fn message(alloc: Global, name: &str, fields: List<Field>) -> Result<MessageType
     })
 }
 
-/// A book, with its author and its sequel, and an author.
-fn book_types(alloc: Global) -> Result<Types, NoMemory> {
+/// The fields of a book, with its author and its sequel.
+fn book_fields(alloc: Global) -> Result<List<Field>, NoMemory> {
+    let labels = Shape::Map(Scalar::Text);
     let mut book = List::new(alloc);
-    add(alloc, &mut book, 1, Kind::One(Scalar::Text), Shape::Single)?;
-    add(alloc, &mut book, 2, Kind::Message(TypeId(1)), Shape::Single)?;
-    add(alloc, &mut book, 3, Kind::One(Scalar::Int32), Shape::Single)?;
-    add(
-        alloc,
-        &mut book,
-        4,
-        Kind::One(Scalar::Sint64),
-        Shape::Single,
-    )?;
-    add(alloc, &mut book, 5, Kind::One(Scalar::Text), Shape::Many)?;
-    add(alloc, &mut book, 6, Kind::One(Scalar::Int32), Shape::Many)?;
-    add(
-        alloc,
-        &mut book,
-        7,
-        Kind::One(Scalar::Int32),
-        Shape::Map(Scalar::Text),
-    )?;
-    add(
-        alloc,
-        &mut book,
-        14,
-        Kind::Message(TypeId(0)),
-        Shape::Single,
-    )?;
+    add_text(alloc, &mut book, 1, Shape::Single)?;
+    add_message(alloc, &mut book, 2, TypeId(1))?;
+    add_number(alloc, &mut book, 3, Scalar::Int32, Shape::Single)?;
+    add_number(alloc, &mut book, 4, Scalar::Sint64, Shape::Single)?;
+    add_text(alloc, &mut book, 5, Shape::Many)?;
+    add_number(alloc, &mut book, 6, Scalar::Int32, Shape::Many)?;
+    add_number(alloc, &mut book, 7, Scalar::Int32, labels)?;
+    add_message(alloc, &mut book, 14, TypeId(0))?;
+    Ok(book)
+}
+
+/// A book and an author.
+fn book_types(alloc: Global) -> Result<Types, NoMemory> {
     let mut author = List::new(alloc);
-    add(
-        alloc,
-        &mut author,
-        1,
-        Kind::One(Scalar::Text),
-        Shape::Single,
-    )?;
-    add(
-        alloc,
-        &mut author,
-        2,
-        Kind::One(Scalar::Int32),
-        Shape::Single,
-    )?;
+    add_text(alloc, &mut author, 1, Shape::Single)?;
+    add_number(alloc, &mut author, 2, Scalar::Int32, Shape::Single)?;
     let mut messages = List::new(alloc);
-    messages.push(message(alloc, "Book", book)?)?;
+    messages.push(message(alloc, "Book", book_fields(alloc)?)?)?;
     messages.push(message(alloc, "Author", author)?)?;
     Ok(Types {
         messages,

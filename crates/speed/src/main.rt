@@ -35,6 +35,26 @@ fn counted(alloc: Global, what: &str, size: usize) -> Result<u64, AllocError> {
     }
 }
 
+/// The parts that are timed, each by its own size.
+const PARTS: [&str; 6] = [
+    "tokens",
+    "tokens-by-byte",
+    "decode",
+    "encode",
+    "huffman",
+    "indexed",
+];
+
+/// One line a part, over the least input: what the gate compares.
+fn write_counts<W: Write>(alloc: Global, out: &mut W) -> io::Result<()> {
+    for what in PARTS {
+        let count = counted(alloc, what, 0)?;
+        out.write_all(format!(in alloc; "{what} {count}\n")?.as_bytes())?;
+    }
+    let count = counted(alloc, "many", 100)?;
+    out.write_all(format!(in alloc; "many {count}\n")?.as_bytes())
+}
+
 fn main(rt: HostRuntime) -> io::Result<()> {
     let alloc = rt.alloc();
     let mut words = Vec::new(alloc);
@@ -43,25 +63,9 @@ fn main(rt: HostRuntime) -> io::Result<()> {
     }
     let size = number_of(words.get(1));
     let mut out = io::writer(&rt);
-    match words.first() {
-        Some(what) => {
-            let count = counted(alloc, what.as_str(), size)?;
-            out.write_all(format!(in alloc; "{count}\n")?.as_bytes())
-        }
-        None => {
-            for what in [
-                "tokens",
-                "tokens-by-byte",
-                "decode",
-                "encode",
-                "huffman",
-                "indexed",
-            ] {
-                let count = counted(alloc, what, 0)?;
-                out.write_all(format!(in alloc; "{what} {count}\n")?.as_bytes())?;
-            }
-            let count = counted(alloc, "many", 100)?;
-            out.write_all(format!(in alloc; "many {count}\n")?.as_bytes())
-        }
-    }
+    let Some(what) = words.first() else {
+        return write_counts(alloc, &mut out);
+    };
+    let count = counted(alloc, what.as_str(), size)?;
+    out.write_all(format!(in alloc; "{count}\n")?.as_bytes())
 }

@@ -1,34 +1,29 @@
 -- The body of an error, piece by piece.
-use Rattle.std.proofs.Common.{◌≡◌, ◌<◌, ◌^◌, ℕ, List, [], ◌∷◌, ◌++◌, length, drop, refl, sym, ap, ◌∙◌, subst, append_assoc, append-nil, Result, Ok, Err, codes, arith}
-use Rattle.std.specs.Prelude.{decimal, OnOk}
+use Rattle.std.proofs.Common.{◌≡◌, ℕ, List, [], ◌∷◌, ◌++◌, length, drop, refl, sym, ap, ◌∙◌, subst, append_assoc, append-nil, codes, arith}
+use Rattle.std.specs.Prelude.{decimal, pos}
 use Rattle.std.specs.Char.{encode_utf8}
 use Rattle.std.specs.Str.{IsUtf8}
 use Rattle.std.specs.Str.Lossy.{utf8_lossy, utf8_valid_len, utf8_invalid_len, replacement_bytes}
 use Rattle.std.proofs.lemmas.Grind.{flat_map-append}
 use Rattle.std.proofs.lemmas.Str.{IsUtf8-append, IsUtf8-nil, utf8_lossy_chunk, utf8_lossy_last_chunk, utf8_lossy_empty}
-use Rattle.json_events.proofs.DecimalLemmas.{decimal_denotes}
-use Rattle.json_events.proofs.SpellingLemmas.{json_string_denotes}
+use Rattle.json_events.specs.JsonNumbers.{DenotesInteger}
+use Rattle.json_events.specs.JsonStrings.{IsString}
 use Rattle.json_events.specs.StringOutput.{escaped_byte, escaped, json_string}
 use Rattle.status_map.specs.ErrorBody.{status_object, error_body, replacement_for, IsErrorBody}
 
--- what is written for a code and a text
-pub error_body_is : (code : ℕ) (message : List ℕ) → code < 2 ^ 64 → IsUtf8 message → IsErrorBody code message (error_body code message)
-error_body_is code message h text = record {
+-- what is written for a code and a text, where the digits are the code and the string stands for the text
+pub error_body_is : (code : ℕ) (message : List ℕ) → DenotesInteger (pos code) (decimal code) → IsString message (json_string message) → IsErrorBody code message (error_body code message)
+error_body_is code message number string = record {
   number = decimal code;
   string = json_string message;
-  number_is = decimal_denotes code h;
-  string_is = json_string_denotes message text;
+  number_is = number;
+  string_is = string;
   bytes_are = refl;
 }
 
--- what follows from two facts of an answer
-pub on_ok_both : {T E P Q R : Type 0} (r : Result T E) → (P → Q → R) → OnOk r P → OnOk r Q → OnOk r R
-on_ok_both (Ok x) f p q = f p q
-on_ok_both (Err e) f p q = p
-
 -- the five pieces of a body
-pub error_body-pieces : (out number text : List ℕ) → ((((out ++ codes "{\"code\":") ++ number) ++ codes ",\"message\":\"") ++ escaped text) ++ codes "\"}" ≡ out ++ status_object number (json_string text)
-error_body-pieces out number text = simp append_assoc
+pub error_body_pieces : (out number text : List ℕ) → ((((out ++ codes "{\"code\":") ++ number) ++ codes ",\"message\":\"") ++ escaped text) ++ codes "\"}" ≡ out ++ status_object number (json_string text)
+error_body_pieces out number text = simp append_assoc
 
 -- a text that was made so far is written behind what was there, and what is made of the bytes that
 -- are left ends it

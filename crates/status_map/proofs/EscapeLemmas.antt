@@ -20,18 +20,18 @@ unfolding percent_encoding_on_literals
 escapes_checked = refl
 
 -- each byte is escaped as the set says
-encode_byte-is : (b : ℕ) → b < 256 → encode_byte ESCAPED b ≡ encoded_byte b
-encode_byte-is =
+encode_byte_is : (b : ℕ) → b < 256 → encode_byte ESCAPED b ≡ encoded_byte b
+encode_byte_is =
     (Decides-below_and (λ b. bytes_eq (encode_byte ESCAPED b) (encoded_byte b)) (λ b. encode_byte ESCAPED b ≡ encoded_byte b) escapes_match (λ b. bytes_eq-Decides _ _) refl (λ _. refl) 256).0 escapes_checked
 
 -- and so is each text
-pub percent_encode-is : (text : List ℕ) → ((i : ℕ) → get_or text i 0 < 256) → percent_encode ESCAPED text ≡ encoded_message text
+pub percent_encode_is : (text : List ℕ) → ((i : ℕ) → get_or text i 0 < 256) → percent_encode ESCAPED text ≡ encoded_message text
 unfolding percent_encode
-percent_encode-is [] k = refl
-percent_encode-is (b ∷ bs) k = ap₂ (λ xs ys. xs ++ ys) (encode_byte-is b (k 0)) (percent_encode-is bs (λ i. k (suc i)))
+percent_encode_is [] k = refl
+percent_encode_is (b ∷ bs) k = ap₂ (λ xs ys. xs ++ ys) (encode_byte_is b (k 0)) (percent_encode_is bs (λ i. k (suc i)))
 
 -- what is put is read back
-pub decoded_message-encoded : (text : List ℕ) → ((i : ℕ) → get_or text i 0 < 256) → decoded_message (encoded_message text) ≡ text
+pub decoded_message_encoded : (text : List ℕ) → ((i : ℕ) → get_or text i 0 < 256) → decoded_message (encoded_message text) ≡ text
 unfolding percent_encoding_on_literals
-decoded_message-encoded text k =
-    ap decoded_message (sym (percent_encode-is text k)) ∙ round_trip ESCAPED text refl (All-from_get_or IsByte text 0 (λ i within. k i))
+decoded_message_encoded text k =
+    ap decoded_message (sym (percent_encode_is text k)) ∙ round_trip ESCAPED text refl (All-from_get_or IsByte text 0 (λ i within. k i))

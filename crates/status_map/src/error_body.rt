@@ -1,12 +1,14 @@
 //! The JSON body of an error.
 ghost use Rattle.std.specs.Prelude.{◌≡◌, ◌++◌, OnOk, OnErr, IsUtf8};
 ghost use Rattle.std.specs.Str.Lossy.{utf8_lossy};
-ghost use Rattle.json_events.specs.AppendedBytes.{Extends, Appends};
+ghost use Rattle.base.specs.Extends.{Extends};
+ghost use Rattle.json_events.specs.AppendedBytes.{Appends};
 ghost use Rattle.json_events.specs.StringOutput.{escaped};
 ghost use Rattle.status_map.specs.ErrorBody.{error_body, replacement_for, IsErrorBody};
 
+use base::{NoMemory, cut_back};
+use json_events::laws::written_texts_mean_their_values;
 use json_events::{put_characters, put_u64};
-use schema::NoMemory;
 
 /// Appends `{"code":N,"message":"T"}`, where T is the text in JSON, with U+FFFD for each sequence of
 /// bytes that is not UTF-8, as std's `from_utf8_lossy` puts it. Where memory is not found, `out` is as
@@ -18,18 +20,16 @@ pub fn put_error(out: &mut Vec<u8>, code: u8, text: &[u8]) -> Result<(), NoMemor
 {
     let len = out.len();
     let done = write_error(out, code, text);
-    if done.is_err() {
-        out.truncate(len);
-    }
-    done
+    cut_back(out, len, done)
 }
 
 /// The same as `put_error`, but that a part may stand where memory is not found.
 fn write_error(out: &mut Vec<u8>, code: u8, text: &[u8]) -> Result<(), NoMemory>
     ensures ok { OnOk result (out.new.items ≡ out.old.items ++ error_body code (utf8_lossy text.now)) }
-    ensures utf8 { OnOk result (IsUtf8 (utf8_lossy text.now)) }
+    ensures means { OnOk result (Appends (IsErrorBody code (utf8_lossy text.now)) out.old.items out.new.items) }
     ensures err { OnErr result (Extends out.old.items out.new.items) }
 {
+    written_texts_mean_their_values();
     out.extend_from_slice(b"{\"code\":")?;
     put_u64(out, u64::from(code))?;
     out.extend_from_slice(b",\"message\":\"")?;

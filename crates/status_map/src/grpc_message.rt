@@ -1,10 +1,10 @@
 //! The value of the field grpc-message (gRPC over HTTP/2, "Status-Message").
-ghost use Rattle.std.specs.Prelude.{◌≡◌, ◌++◌, ◌<◌, ℕ, List, slice_index, IfOk, OnOk, OnErr};
-ghost use Rattle.json_events.specs.AppendedBytes.{Extends};
+ghost use Rattle.std.specs.Prelude.{◌≡◌, ◌++◌, IfOk, OnOk, OnErr};
+ghost use Rattle.base.specs.Extends.{Extends};
 ghost use Rattle.status_map.specs.GrpcMessage.{encoded_message, decoded_message};
 
+use base::{Blob, NoMemory, cut_back};
 use percent_encoding::{AsciiSet, CONTROLS, ascii_set, percent_decode, percent_encode};
-use schema::{Blob, NoMemory};
 use std::alloc::Global;
 
 /// The bytes of ASCII that are sent as escapes.
@@ -28,10 +28,7 @@ pub fn put_message(out: &mut Vec<u8>, text: &[u8]) -> Result<(), NoMemory>
 {
     let len = out.len();
     let done = write_message(out, text);
-    if done.is_err() {
-        out.truncate(len);
-    }
-    done
+    cut_back(out, len, done)
 }
 
 /// The same as `put_message`, but that a part may stand where memory is not found.
@@ -44,8 +41,3 @@ fn write_message(out: &mut Vec<u8>, text: &[u8]) -> Result<(), NoMemory>
     }
     Ok(())
 }
-
-/// What is put for a text is read as the text.
-pub fn sent_messages_are_read_back()
-    ensures { (text : List ℕ) → ((i : ℕ) → slice_index text i < 256) → decoded_message (encoded_message text) ≡ text }
-{}

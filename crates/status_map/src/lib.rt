@@ -2,15 +2,15 @@
 //! codes (google/rpc/code.proto; gRPC over HTTP/2), the JSON body of an error, and the value of the
 //! field grpc-message.
 //!
-//! Status details (the field grpc-status-details-bin) are neither read nor written.
+//! The law of grpc-messages stands in `laws`. Status details (the field grpc-status-details-bin) are
+//! neither read nor written.
 #![tactic(auto)]
 
 mod codes;
 mod error_body;
 mod grpc_message;
-#[cfg(test)]
-mod tests;
+pub mod laws;
 
 pub use codes::{code_of_http, code_of_reset, http_of};
 pub use error_body::put_error;
-pub use grpc_message::{put_message, read_message, sent_messages_are_read_back};
+pub use grpc_message::{put_message, read_message};

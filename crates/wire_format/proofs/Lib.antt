@@ -1,36 +1,10 @@
-pub mod PowerLemmas
-pub mod SkipLemmas
-pub mod GroupLemmas
-pub mod ExitLemmas
-pub mod RecordLemmas
-pub mod ValidLemmas
-pub mod SizeLemmas
-pub mod FaultLemmas
-pub mod StableLemmas
-pub mod GoodLemmas
-pub mod OneofLemmas
-pub mod EntryLemmas
-pub mod ItemLemmas
-pub mod CollectLemmas
-pub mod MeaningLemmas
-pub mod WrittenLemmas
-pub mod ScalarLemmas
-pub mod FieldRecordLemmas
-pub mod ItemReadLemmas
-pub mod EntryReadLemmas
-pub mod SlotReadLemmas
-pub mod RisingLemmas
-pub mod MemberLemmas
-pub mod MessageReadLemmas
-pub mod LengthLemmas
-pub mod RoundTrip
-pub mod RangeLemmas
-pub mod DecodedItemLemmas
-pub mod DecodedOneofLemmas
-pub mod CleanLemmas
-pub mod DecodedIsValid
-pub mod MergeSlotLemmas
-pub mod MergeMessageLemmas
-pub mod FaultPlaceLemmas
-pub mod KeptLemmas
-pub mod MergedBytes
+-- What bytes decode to, and their first fault (`decode`, the law `decodes_without_fault`).
+pub mod decoding
+-- What is written, and how long it is (`encode`, `encoded_len`).
+pub mod encoding
+-- What is written is read (the laws `canonical_bytes_decode_to_their_value`, `sound_types_have_sound_fields`).
+pub mod round_trip
+-- What is decoded is valid (the clause `valid` of `decode`, the law `decoded_values_are_valid`).
+pub mod validity
+-- Bytes behind others are merged (the law `joined_bytes_merge`).
+pub mod merging

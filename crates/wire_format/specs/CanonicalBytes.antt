@@ -1,6 +1,6 @@
 -- The canonical bytes of a value: fields by rising number, shortest varints, lists packed as declared, map
 -- entries by rising key, each with key and value (the encoding guide).
-use Rattle.std.specs.Prelude.{◌+◌, ◌*◌, ◌++◌, ℕ, ℤ, pos, negsuc, zero, suc, Bool, List, [], ◌∷◌, Option, Some, None, length, if◌then◌else◌}
+use Rattle.std.specs.Prelude.{◌+◌, ◌*◌, ◌++◌, ℕ, ℤ, pos, negsuc, zero, suc, Bool, List, [], ◌∷◌, Option, Some, None, if◌then◌else◌}
 use Rattle.std.specs.List.{flat_map}
 use Rattle.std.specs.Int.{w32, w64, cast_unsigned, to_le_bytes}
 use Rattle.schema.specs.Layers.{ItemLayer, SlotLayer}
@@ -22,7 +22,8 @@ use Rattle.schema.specs.declared.types.fields.Shape.{Shape}
 use Rattle.schema.specs.declared.types.fields.Shape.TheVariants.{Map as MapOf}
 use Rattle.schema.specs.declared.types.messages.TypeId.{TypeId}
 use Rattle.schema.specs.declared.types.messages.Types.{Types}
-use Rattle.wire_format.specs.Varint.{varint}
+use Rattle.wire_records.specs.RecordBytes.{tag, delimited}
+use Rattle.wire_records.specs.Varint.{varint}
 use Rattle.wire_format.specs.Scalars.{scalar_wire}
 
 -- signed numbers by zigzag (the encoding guide, "Signed Integers")
@@ -44,14 +45,6 @@ number_bytes _ z = varint (cast_unsigned w64 z)
 abbrev pub wire_of : Kind → ℕ
 wire_of (OneOf s) = scalar_wire s
 wire_of (MessageOf id) = 2
-
--- bytes behind their length
-abbrev pub delimited : List ℕ → List ℕ
-delimited bytes = varint (length bytes) ++ bytes
-
--- the tag of a field number and a wire type
-abbrev pub tag : ℕ → ℕ → List ℕ
-tag number wire = varint (number * 8 + wire)
 
 -- a truth value
 abbrev pub truth_bytes : Bool → List ℕ

@@ -1,7 +1,7 @@
 -- The value that bytes are as a message: for each field the slot that its records say (the encoding guide,
 -- "Last One Wins", "Oneofs", "Packed Repeated Fields", "Maps").
-use Rattle.std.specs.Prelude.{◌==◌, ◌&&◌, ◌||◌, ℕ, pos, zero, suc, false, Bool, List, [], ◌∷◌, Option, Some, None, map, is_some, if◌then◌else◌, option_and_then, unwrap_or}
-use Rattle.std.specs.List.{flat_map, filter_map}
+use Rattle.std.specs.Prelude.{◌==◌, ◌&&◌, ℕ, pos, zero, suc, false, Bool, List, [], ◌∷◌, Option, Some, None, map, is_some, if◌then◌else◌, option_and_then, unwrap_or}
+use Rattle.std.specs.List.{flat_map, filter_map, list_any}
 use Rattle.std.specs.Ordering.{is_eq, is_lt}
 use Rattle.schema.specs.Layers.{ItemLayer}
 use Rattle.schema.specs.Pairs.{key_cmp}
@@ -23,19 +23,16 @@ use Rattle.schema.specs.declared.value.Item.TheOpen.{Number, Truth, Text, Messag
 use Rattle.schema.specs.declared.value.Item.{roll-Item, Item}
 use Rattle.schema.specs.declared.value.Slot.{roll-Slot, Slot}
 use Rattle.schema.specs.declared.value.Value.{Value}
-use Rattle.wire_format.specs.Scalars.{scalar_of, is_packable, option_list, elements, default_of}
-use Rattle.wire_format.specs.WireRecord.{Record, Payload, sized, records}
+use Rattle.wire_format.specs.Scalars.{scalar_of, elements, default_of}
+use Rattle.schema.specs.Soundness.{is_packable}
+use Rattle.std.specs.Option.{option_to_list}
+use Rattle.wire_records.specs.WireRecord.{Record, Payload, sized, records}
 
 -- the last of a list
 abbrev pub last_of : {A : Type 0} → List A → Option A
 last_of [] = None
 last_of (x ∷ []) = Some x
 last_of (x ∷ y ∷ xs) = last_of (y ∷ xs)
-
--- the test passes for one of a list
-abbrev pub some_of : {A : Type 0} → (A → Bool) → List A → Bool
-some_of p [] = false
-some_of p (x ∷ xs) = p x || some_of p xs
 
 -- the test passes for the first of a list
 abbrev pub first_passes : {A : Type 0} → (A → Bool) → List A → Bool
@@ -45,7 +42,7 @@ first_passes p (x ∷ xs) = p x
 -- what stands behind the last for which the test passes
 abbrev pub since : {A : Type 0} → (A → Bool) → List A → List A
 since p [] = []
-since p (x ∷ xs) = if some_of p (x ∷ xs) then since p xs else x ∷ xs
+since p (x ∷ xs) = if list_any p (x ∷ xs) then since p xs else x ∷ xs
 
 -- the payloads of a field number, in order
 abbrev pub payloads : ℕ → List Record → List Payload
@@ -112,8 +109,8 @@ singular inner types (MessageOf id) ps = message_item inner (fields_of types id)
 
 -- the items of one scalar payload of a list, packed or not
 abbrev pub scalar_items : Scalar → Payload → List ItemLayer
-scalar_items s (sized bs) = if is_packable s then elements s 0 bs else option_list (scalar_of s (sized bs))
-scalar_items s p = option_list (scalar_of s p)
+scalar_items s (sized bs) = if is_packable s then elements s 0 bs else option_to_list (scalar_of s (sized bs))
+scalar_items s p = option_to_list (scalar_of s p)
 
 -- the items of one payload of a list
 abbrev pub items_of : Inner → Types → Kind → Payload → List ItemLayer
@@ -138,7 +135,7 @@ abbrev pub entry_by : Inner → Types → Scalar → Kind → List Record → Ke
 entry_by inner types s kind rs =
     (key_of (unwrap_or (singular inner types (OneOf s) (payloads 1 rs)) (default_of s)), roll-Item (unwrap_or (singular inner types kind (payloads 2 rs)) (default_item kind)))
 
--- an entry in its place, unless its key has one
+-- an entry where its key belongs, unless the key has one
 abbrev pub if_new : Key × Item → List (Key × Item) → List (Key × Item)
 if_new e [] = e ∷ []
 if_new e (d ∷ ds) = if is_lt (key_cmp d.0 e.0) then d ∷ if_new e ds else (if is_eq (key_cmp d.0 e.0) then d ∷ ds else e ∷ d ∷ ds)

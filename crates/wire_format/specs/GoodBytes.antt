@@ -1,6 +1,6 @@
 -- Bytes that have no fault as a message with these fields, told by their records: these are whole, text in them is
 -- UTF-8, and what is nested is the same, one level further in.
-use Rattle.std.specs.Prelude.{◌≡◌, ◌-◌, ℕ, zero, suc, true, List, [], ◌∷◌, Option, Some, None, Result, Ok, Err}
+use Rattle.std.specs.Prelude.{◌≡◌, ℕ, zero, suc, true, List, Option, Some, None}
 use Rattle.std.specs.List.{AllByRecursion}
 use Rattle.std.specs.Str.{is_utf8}
 use Rattle.schema.specs.Types.{field_in, fields_of}
@@ -13,19 +13,8 @@ use Rattle.schema.specs.declared.types.fields.Shape.{Shape}
 use Rattle.schema.specs.declared.types.fields.Shape.TheVariants.{Map as MapOf}
 use Rattle.schema.specs.declared.types.messages.Types.{Types}
 use Rattle.wire_format.specs.WireFaults.{entry_fields}
-use Rattle.wire_format.specs.WireRecord.{Record, Payload, sized, record_in, records}
-use Rattle.wire_format.specs.declared.fault.WireKind.{WireKind}
-
--- a whole record, and what holds behind it
-abbrev pub AndWhole : Result Record (ℕ × WireKind) → (ℕ → Type 0) → Type 0
-AndWhole (Ok r) Go = Go (r.size - 1)
-AndWhole (Err e) Go = ⊥
-
--- the bytes behind `skip` of them are whole records
-abbrev pub AreWhole : ℕ → ℕ → List ℕ → Type 0
-AreWhole k skip [] = skip ≡ 0
-AreWhole k (suc skip) (b ∷ bs) = AreWhole k skip bs
-AreWhole k zero (b ∷ bs) = AndWhole (record_in k (b ∷ bs)) (λ skip. AreWhole k skip bs)
+use Rattle.wire_records.specs.WholeRecords.{AreWhole}
+use Rattle.wire_records.specs.WireRecord.{Record, Payload, sized, records}
 
 -- a payload is text that is UTF-8, where it is that of a string
 abbrev pub IsGoodText : Scalar → Payload → Type 0

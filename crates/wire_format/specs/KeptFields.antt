@@ -3,7 +3,7 @@
 -- such bytes. Others do not merge as their values do: where the later bytes set a number to 0, their value has no
 -- slot that could tell so.
 use Rattle.std.specs.Prelude.{◌≡◌, ◌≢◌, ℕ, zero, suc, true, List, Option, Some, None}
-use Rattle.std.specs.List.{flat_map, filter_map}
+use Rattle.std.specs.List.{flat_map, filter_map, list_any}
 use Rattle.schema.specs.Types.{field_in, fields_of}
 use Rattle.schema.specs.declared.types.fields.Field.{Field}
 use Rattle.schema.specs.declared.types.fields.Kind.{Kind}
@@ -12,12 +12,12 @@ use Rattle.schema.specs.declared.types.fields.Shape.{Shape}
 use Rattle.schema.specs.declared.types.fields.Shape.TheVariants.{Many as ManyOf, Map as MapOf}
 use Rattle.schema.specs.declared.types.messages.Types.{Types}
 use Rattle.schema.specs.declared.value.Slot.{Slot}
-use Rattle.wire_format.specs.FieldValues.{some_of, payloads, sized_of, counts, slot_of, meaning_within}
-use Rattle.wire_format.specs.WireRecord.{Payload, records}
+use Rattle.wire_format.specs.FieldValues.{payloads, sized_of, counts, slot_of, meaning_within}
+use Rattle.wire_records.specs.WireRecord.{Payload, records}
 
 -- a field of which a payload counts has a slot
 abbrev pub KeepsSlot : Kind → List Payload → Option Slot → Type 0
-KeepsSlot kind ps o = some_of (counts kind) ps ≡ true → o ≢ None
+KeepsSlot kind ps o = list_any (counts kind) ps ≡ true → o ≢ None
 
 -- the message that payloads are, joined, undoes nothing, where `inner` says so of bytes
 abbrev pub KeepsMessage : (List Field → List ℕ → Type 0) → Types → Kind → List Payload → Type 0

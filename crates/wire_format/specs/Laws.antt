@@ -1,6 +1,7 @@
 -- Laws of bytes and values.
-use Rattle.std.specs.Prelude.{◌≡◌, ◌<◌, ◌^◌, ◌↔◌, ◌++◌, ℕ, List, Ok, length, slice_index_or}
+use Rattle.std.specs.Prelude.{◌≡◌, ◌<◌, ◌^◌, ◌↔◌, ◌++◌, ℕ, List, Ok, length}
 use Rattle.std.specs.List.{AllByRecursion}
+use Rattle.base.specs.Bytes.{AreBytes}
 use Rattle.schema.specs.Soundness.{IsSound, IsSoundField}
 use Rattle.schema.specs.Types.{fields_of}
 use Rattle.schema.specs.Validity.{IsValid}
@@ -30,10 +31,6 @@ HasSoundFields types = AllByRecursion (λ (m : MessageType). AllByRecursion (IsS
 -- the fields of sound types are sound
 abbrev pub SoundTypesHaveSoundFields : Type 0
 SoundTypesHaveSoundFields = (types : Types) → IsSound types → HasSoundFields types
-
--- each number of a list is a byte
-abbrev pub AreBytes : List ℕ → Type 0
-AreBytes bytes = (i : ℕ) → slice_index_or bytes i 0 < 256
 
 -- what bytes decode to is valid
 abbrev pub DecodedValuesAreValid : Type 0

@@ -17,7 +17,8 @@ use Rattle.schema.specs.declared.types.fields.Shape.{Shape}
 use Rattle.schema.specs.declared.types.fields.Shape.TheVariants.{Member}
 use Rattle.schema.specs.declared.types.messages.TypeId.{TypeId}
 use Rattle.schema.specs.declared.types.messages.Types.{Types}
-use Rattle.wire_format.specs.FieldValues.{some_of, in_oneof, last_entries, gather}
+use Rattle.std.specs.List.{list_any}
+use Rattle.wire_format.specs.FieldValues.{in_oneof, last_entries, gather}
 
 -- of two items the later one, where `merge` says how two messages merge
 abbrev pub merged_item : (TypeId → Value → Value → Value) → Kind → ItemLayer → ItemLayer → ItemLayer
@@ -44,7 +45,7 @@ is_member k (Some f) = in_oneof k f.shape
 
 -- a list of slots has another member of the oneof than number `n`
 abbrev pub has_other : List Field → ℕ → ℕ → List (ℕ × Slot) → Bool
-has_other fields k n es = some_of (λ (e : ℕ × Slot). if e.0 == n then false else is_member k (field_in fields e.0)) es
+has_other fields k n es = list_any (λ (e : ℕ × Slot). if e.0 == n then false else is_member k (field_in fields e.0)) es
 
 -- what is left of the earlier slot of a number: of a member of a oneof nothing, where the later value has another
 abbrev pub left_slot : List Field → ℕ → Shape → List (ℕ × Slot) → Option Slot → Option Slot

@@ -1,13 +1,14 @@
 -- What a payload is as a scalar (the encoding guide, "Encoding Field Types"): int32, int64 and enums in two's
 -- complement, cut to 32 bits where the field has 32; sint by zigzag; fixed in four or eight bytes.
-use Rattle.std.specs.Prelude.{◌==◌, ◌%◌, ◌^◌, ◌/◌, ◌-◌, ◌++◌, ℕ, ℤ, pos, negsuc, zero, suc, true, false, Bool, List, [], ◌∷◌, Option, Some, None, Result, Ok, Err, if◌then◌else◌}
+use Rattle.std.specs.Prelude.{◌==◌, ◌%◌, ◌^◌, ◌/◌, ◌-◌, ◌++◌, ℕ, ℤ, pos, negsuc, zero, suc, true, false, List, [], ◌∷◌, Option, Some, None, Result, Ok, Err, if◌then◌else◌}
+use Rattle.std.specs.Option.{option_to_list}
 use Rattle.std.specs.Int.{w32, w64, cast_signed}
 use Rattle.schema.specs.Layers.{ItemLayer}
 use Rattle.schema.specs.declared.value.Item.TheOpen.{Number, Truth, Text, Bytes}
 use Rattle.schema.specs.declared.types.fields.Scalar.{Scalar}
 use Rattle.schema.specs.declared.types.fields.Scalar.TheVariants.{Int32, Int64, Uint32, Sint32, Sint64, Fixed32, Fixed64, Sfixed32, Sfixed64, Bool as BoolOf, Text as TextOf, Bytes as BytesOf, Enumeration}
-use Rattle.wire_format.specs.declared.fault.WireKind.{WireKind}
-use Rattle.wire_format.specs.WireRecord.{Payload, Piece, number, eight, sized, four, payload_in}
+use Rattle.wire_records.specs.declared.fault.WireKind.{WireKind}
+use Rattle.wire_records.specs.WireRecord.{Payload, Piece, number, eight, sized, four, payload_in}
 
 -- the signed number that a zigzag number stands for
 abbrev pub unzigzag : ℕ → ℤ
@@ -45,10 +46,6 @@ scalar_of Sfixed64 (eight n) = Some (Number (cast_signed w64 n))
 scalar_of s (number n) = if scalar_wire s == 0 then Some (number_of s n) else None
 scalar_of _ _ = None
 
--- a list of the kind can be packed
-abbrev pub is_packable : Scalar → Bool
-is_packable s = if scalar_wire s == 2 then false else true
-
 -- the default of a scalar kind
 abbrev pub default_of : Scalar → ItemLayer
 default_of BoolOf = Truth false
@@ -56,15 +53,10 @@ default_of TextOf = Text []
 default_of BytesOf = Bytes []
 default_of _ = Number (pos 0)
 
--- one item, or none, as a list
-abbrev pub option_list : {A : Type 0} → Option A → List A
-option_list None = []
-option_list (Some x) = x ∷ []
-
 -- an item, if it fits, and what goes on behind it
 abbrev pub and_elements : Scalar → Result Piece WireKind → (ℕ → List ItemLayer) → List ItemLayer
 and_elements s (Err e) go = []
-and_elements s (Ok p) go = option_list (scalar_of s p.payload) ++ go (p.to - 1)
+and_elements s (Ok p) go = option_to_list (scalar_of s p.payload) ++ go (p.to - 1)
 
 -- the items of a packed payload behind `skip` bytes
 abbrev pub elements : Scalar → ℕ → List ℕ → List ItemLayer

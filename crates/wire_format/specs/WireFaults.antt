@@ -12,15 +12,22 @@ use Rattle.schema.specs.declared.types.fields.Scalar.TheVariants.{Text as TextOf
 use Rattle.schema.specs.declared.types.fields.Shape.{Shape}
 use Rattle.schema.specs.declared.types.fields.Shape.TheVariants.{Single, Many, Map as MapOf}
 use Rattle.schema.specs.declared.types.messages.Types.{Types}
-use Rattle.wire_format.specs.declared.fault.WireKind.{WireKind}
-use Rattle.wire_format.specs.declared.fault.WireKind.TheVariants.{TooDeep}
-use Rattle.wire_format.specs.WireRecord.{Record, Payload, Piece, sized, payload_in, record_in}
-use Rattle.wire_format.specs.Scalars.{scalar_wire, is_packable}
+use Rattle.wire_records.specs.RecordFaults.{records_fault}
+use Rattle.wire_records.specs.declared.fault.WireFault.{WireFault}
+use Rattle.wire_records.specs.declared.fault.WireKind.{WireKind}
+use Rattle.wire_records.specs.declared.fault.WireKind.TheVariants.{TooDeep}
+use Rattle.wire_records.specs.WireRecord.{Record, Payload, Piece, sized, payload_in}
+use Rattle.wire_format.specs.Scalars.{scalar_wire}
+use Rattle.schema.specs.Soundness.{is_packable}
 
--- a fault with its place
+-- a fault and the offset where it is
 pub data Fault : Type 0 where
   Wire : (place : ℕ) (kind : WireKind) → Fault
   NotUtf8 : (place : ℕ) → Fault
+
+-- what is wrong with a record, as a fault
+abbrev pub as_wire : WireFault → Fault
+as_wire f = Wire f.place f.kind
 
 -- a part of an entry of a map: a single field that has no name
 abbrev pub entry_field : ℕ → Kind → Field
@@ -34,11 +41,6 @@ entry_fields s kind = entry_field 1 (OneOf s) ∷ entry_field 2 kind ∷ []
 abbrev pub is_message : Kind → Bool
 is_message (MessageOf id) = true
 is_message (OneOf s) = false
-
--- the first of two faults
-abbrev pub or_else : Option Fault → Option Fault → Option Fault
-or_else None g = g
-or_else (Some f) g = Some f
 
 -- an element's fault, or what goes on behind it
 abbrev pub and_element_fault : ℕ → Result Piece WireKind → (ℕ → Option Fault) → Option Fault
@@ -70,18 +72,7 @@ abbrev pub field_fault : (List Field → ℕ → List ℕ → Option Fault) → 
 field_fault inner types k None place r = None
 field_fault inner types k (Some f) place r = payload_fault inner types k f.shape f.kind place (place + r.head) r.payload
 
--- a record's fault, its payload's, or what goes on behind it
-abbrev pub and_fault : ℕ → (Record → Option Fault) → Result Record (ℕ × WireKind) → (ℕ → Option Fault) → Option Fault
-and_fault place check (Err e) go = Some (Wire (place + e.0) e.1)
-and_fault place check (Ok r) go = or_else (check r) (go (r.size - 1))
-
--- the first fault of records and their payloads behind `skip` bytes
-abbrev pub records_fault : (ℕ → Record → Option Fault) → ℕ → ℕ → ℕ → List ℕ → Option Fault
-records_fault check k place skip [] = None
-records_fault check k place (suc skip) (b ∷ bs) = records_fault check k (place + 1) skip bs
-records_fault check k place zero (b ∷ bs) = and_fault place (check place) (record_in k (b ∷ bs)) (λ skip. records_fault check k (place + 1) skip bs)
-
 -- the first fault of the bytes at a place, as a message with these fields, in k more levels
 unfoldable pub first_fault : ℕ → Types → List Field → ℕ → List ℕ → Option Fault
 first_fault zero types fields place bytes = None
-first_fault (suc k) types fields place bytes = records_fault (λ at r. field_fault (first_fault k types) types k (field_in fields r.number) at r) k place 0 bytes
+first_fault (suc k) types fields place bytes = records_fault as_wire (λ at r. field_fault (first_fault k types) types k (field_in fields r.number) at r) k place 0 bytes

@@ -14,7 +14,7 @@ use Rattle.schema.specs.declared.value.Value.{Value}
 use Rattle.wire_format.specs.CanonicalBytes.{canonical_bytes}
 use Rattle.wire_format.specs.Decoding.{decoding}
 use Rattle.wire_format.specs.WireFaults.{Wire, NotUtf8}
-use Rattle.wire_format.specs.declared.fault.WireKind.TheVariants.{Short, LongVarint, BadGroup}
+use Rattle.wire_records.specs.declared.fault.WireKind.TheVariants.{Short, LongVarint, BadGroup}
 
 -- a book: two texts, a number, a packed list, a map, a oneof of a text and a book, a zigzag number, and a book that follows it
 abbrev pub book_types : Types
@@ -37,6 +37,7 @@ book_types = record {
   enums = [];
 }
 
+-- the type of a book
 abbrev pub book : TypeId
 book = record { 0 = 0 }
 

@@ -4,18 +4,17 @@ ghost use Rattle.std.specs.Prelude.{◌≡◌, ◌+◌, ◌<◌, ◌^◌, length
 ghost use Rattle.schema.specs.Types.{field_in};
 ghost use Rattle.std.specs.Str.{is_utf8};
 ghost use Rattle.wire_format.specs.Checks.{Finds};
-ghost use Rattle.wire_format.specs.RecordViews.{raw_of, sized_len};
-ghost use Rattle.wire_format.specs.Scalars.{is_packable as is_packable_scalar};
-ghost use Rattle.wire_format.specs.WireRecord.{sized};
+ghost use Rattle.wire_records.specs.RecordViews.{raw_of, sized_len};
+ghost use Rattle.wire_records.specs.WireRecord.{sized};
 ghost use Rattle.wire_format.specs.WireFaults.{Wire, element_fault, entry_field as field_of_entry, entry_fields as fields_of_entry, scalar_fault, payload_fault, field_fault, first_fault, is_message as is_message_kind};
 
-use crate::fault::{DecodeFault, WireFault, WireKind};
-use crate::groups::{RawRecord, record_of};
-use crate::payload::{Payload, payload_of};
+use crate::fault::DecodeFault;
 use crate::sizes::scalar_wire;
-use schema::{Field, Kind, Presence, Scalar, Shape, Text, TypeId, Types, find_field};
+use base::Text;
+use schema::{Field, Kind, Presence, Scalar, Shape, TypeId, Types, find_field, is_packable};
 use std::alloc::Global;
 use std::str;
+use wire_records::{Payload, RawRecord, WireFault, WireKind, payload_of, record_of};
 
 /// A fault of a record or an element at a place.
 fn fault_at(place: u64, kind: WireKind) -> DecodeFault
@@ -57,13 +56,6 @@ fn is_text(bytes: &[u8]) -> bool
         Ok(_) => true,
         Err(_) => false,
     }
-}
-
-/// True where a list of the scalar kind can be packed.
-pub(crate) fn is_packable(scalar: Scalar) -> bool
-    ensures { result ≡ is_packable_scalar scalar }
-{
-    scalar_wire(scalar) != 2
 }
 
 /// True where the kind is a message.

@@ -13,24 +13,24 @@ ghost use Rattle.wire_format.specs.Decoding.{decoding};
 ghost use Rattle.wire_format.specs.FieldValues.{sized_of, payloads, message_item, pairs as pairs_slot, stored as stored_slot, counted as counted_records, default_item as default_layer, singular, items_of, slot_by as slot_by_payloads, slot_of, last_entries, gather, meaning_within};
 ghost use Rattle.wire_format.specs.GoodBytes.{IsGoodItem, IsGoodEntry, IsGoodPayload, AreGoodRecords, AreGood};
 ghost use Rattle.wire_format.specs.Laws.{HasSoundFields};
-ghost use Rattle.wire_format.specs.RecordViews.{raw_of, payload_of as seen_payload};
+ghost use Rattle.wire_records.specs.RecordViews.{raw_of, payload_of as seen_payload};
 ghost use Rattle.wire_format.specs.WireFaults.{entry_fields};
 
 use crate::checker::check_message;
 use crate::fault::DecodeFault;
 use crate::gathered::{entries_pairs, put_last};
-use crate::groups::RawRecord;
 use crate::items::{last_scalar, push_scalars};
-use crate::payload::Payload;
-use crate::payloads::{chunks_of, counted, joined, payloads_of, records_of};
+use crate::payloads::{chunks_of, counted, joined, payloads_of};
 use crate::scalars::{key_of, stored};
 use crate::slots::{entries, many, or_default, put};
+use base::{List, NoMemory};
 use schema::{
-    Field, Item, Key, Kind, List, NoMemory, Pairs, Scalar, Shape, Slot, TypeId, Types, Value,
+    Field, Item, Key, Kind, MAX_LEVELS, Pairs, Scalar, Shape, Slot, TypeId, Types, Value,
     find_field,
 };
 use std::alloc::Global;
 use std::collections::BTreeMap;
+use wire_records::{Payload, RawRecord, records_of};
 
 /// The item of a singular field by its payloads: of a scalar the last, of a message all of them,
 /// joined.
@@ -357,8 +357,8 @@ fn decoded(alloc: Global, types: &Types, id: TypeId, bytes: &[u8]) -> Result<Val
     ensures { Decodes result (decoding types.now id bytes.now) }
 {
     let fields = types.fields(id);
-    check_message(alloc, types, 100, fields, 0, bytes)?;
-    match message_of(alloc, types, fields, 100, bytes) {
+    check_message(alloc, types, MAX_LEVELS, fields, 0, bytes)?;
+    match message_of(alloc, types, fields, MAX_LEVELS, bytes) {
         Ok(value) => Ok(value),
         Err(NoMemory) => Err(DecodeFault::NoMemory),
     }

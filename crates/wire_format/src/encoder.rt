@@ -6,34 +6,19 @@ ghost use Rattle.schema.specs.Validity.{IsScalarItem, IsItem, IsSlot, IsFieldSlo
 ghost use Rattle.schema.specs.Types.{field_in};
 ghost use Rattle.schema.specs.declared.value.Item.{out-Item};
 ghost use Rattle.schema.specs.declared.value.Slot.{out-Slot};
-ghost use Rattle.wire_format.specs.CanonicalBytes.{canonical_within, canonical_bytes, tag, delimited, truth_bytes, key_bytes, item_bytes, record_bytes, entry_bytes, entry_record, slot_bytes, field_bytes, entries_bytes, items_bytes, records_bytes, list_bytes, slots_bytes};
-ghost use Rattle.wire_format.specs.Extends.{Extends};
+ghost use Rattle.wire_format.specs.CanonicalBytes.{canonical_within, canonical_bytes, truth_bytes, key_bytes, item_bytes, record_bytes, entry_bytes, entry_record, slot_bytes, field_bytes, entries_bytes, items_bytes, records_bytes, list_bytes, slots_bytes};
+ghost use Rattle.wire_records.specs.RecordBytes.{delimited};
+ghost use Rattle.base.specs.Extends.{Extends};
 ghost use Rattle.wire_format.specs.Sizes.{size_of};
-ghost use Rattle.wire_format.specs.Varint.{varint};
+ghost use Rattle.wire_records.specs.Varint.{varint};
 
-use crate::numbers::{put_bytes, put_number};
+use crate::numbers::put_number;
 use crate::sizes::{entry_len, items_len, message_len, scalar_wire, wire_of};
-use crate::varint::put_varint;
+use base::{NoMemory, cut_back};
 use schema::{
-    Field, Item, Key, Kind, NoMemory, Scalar, Shape, Slot, TypeId, Types, Value, find_field,
+    Field, Item, Key, Kind, MAX_LEVELS, Scalar, Shape, Slot, TypeId, Types, Value, find_field,
 };
-
-/// Appends a tag.
-fn put_tag(out: &mut Vec<u8>, number: u32, wire: u8) -> Result<(), NoMemory>
-    ensures ok { OnOk result (out.new.items ≡ out.old.items ++ tag number wire) }
-    ensures err { OnErr result (Extends out.old.items out.new.items) }
-{
-    put_varint(out, u64::from(number) * 8 + u64::from(wire))
-}
-
-/// Appends bytes behind their length.
-fn put_delimited(out: &mut Vec<u8>, bytes: &[u8]) -> Result<(), NoMemory>
-    ensures ok { OnOk result (out.new.items ≡ out.old.items ++ delimited bytes.now) }
-    ensures err { OnErr result (Extends out.old.items out.new.items) }
-{
-    put_varint(out, bytes.len() as u64)?;
-    put_bytes(out, bytes)
-}
+use wire_records::{LEN, put_delimited, put_tag, put_varint};
 
 /// Appends the length of bytes that follow. No memory holds as many as 64 bits cannot tell.
 fn put_len(out: &mut Vec<u8>, len: u64) -> Result<(), NoMemory>
@@ -167,7 +152,7 @@ fn put_records(
 
 /// Appends the key and the value of an entry.
 #[cycle(put)]
-#[tactic(auto, using(crate::proofs::ValidLemmas::entry_item, crate::proofs::ValidLemmas::entry_key))]
+#[tactic(auto, using(crate::proofs::encoding::ValidLemmas::entry_item, crate::proofs::encoding::ValidLemmas::entry_key))]
 fn put_pair(
     out: &mut Vec<u8>,
     types: &Types,
@@ -202,7 +187,7 @@ fn put_entry(
     ensures ok { OnOk result (out.new.items ≡ out.old.items ++ entry_record (canonical_within level types.now) number scalar kind (key.now, item.now)) }
     ensures err { OnErr result (Extends out.old.items out.new.items) }
 {
-    put_tag(out, number, 2)?;
+    put_tag(out, number, LEN)?;
     put_len(out, entry_len(types, scalar, kind, key, item, level))?;
     put_pair(out, types, scalar, kind, key, item, level)
 }
@@ -242,7 +227,7 @@ fn put_list(
     ensures err { OnErr result (Extends out.old.items out.new.items) }
 {
     if field.packed {
-        put_tag(out, field.number, 2)?;
+        put_tag(out, field.number, LEN)?;
         put_len(out, items_len(types, field.kind, items, level))?;
         return put_items(out, types, field.kind, items, level);
     }
@@ -315,7 +300,7 @@ fn put_slots(
 
 /// Appends a message of so many levels.
 #[cycle(put)]
-#[tactic(auto, using(crate::proofs::ValidLemmas::message_slots))]
+#[tactic(auto, using(crate::proofs::encoding::ValidLemmas::message_slots))]
 fn put_message(
     out: &mut Vec<u8>,
     types: &Types,
@@ -342,9 +327,6 @@ pub fn encode(types: &Types, id: TypeId, value: &Value, out: &mut Vec<u8>) -> Re
     ensures err { OnErr result (out.new.items ≡ out.old.items) }
 {
     let len = out.len();
-    let done = put_message(out, types, id, value, 100);
-    if done.is_err() {
-        out.truncate(len);
-    }
-    done
+    let done = put_message(out, types, id, value, MAX_LEVELS);
+    cut_back(out, len, done)
 }

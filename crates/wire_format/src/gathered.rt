@@ -2,12 +2,13 @@
 ghost use Rattle.std.specs.Prelude.{◌≡◌, IfOk, OnOk};
 ghost use Rattle.schema.specs.Pairs.{entries_of, with_item};
 
-use schema::{Item, Key, List, NoMemory, Pairs};
+use base::{List, NoMemory};
+use schema::{Item, Key, Pairs};
 use std::alloc::Global;
 use std::collections::BTreeMap;
 
 /// Puts an entry, in place of one of its key.
-#[tactic(auto, using(crate::proofs::EntryLemmas::inserted))]
+#[tactic(auto, using(crate::proofs::decoding::EntryLemmas::inserted))]
 pub(crate) fn put_last(
     entries: &mut BTreeMap<Key, Item>,
     key: Key,

@@ -4,15 +4,17 @@ ghost use Rattle.std.specs.List.{AllByRecursion, filter_map};
 ghost use Rattle.schema.specs.declared.value.Item.{out-Item};
 ghost use Rattle.wire_format.specs.FieldValues.{last_of, scalar_items};
 ghost use Rattle.wire_format.specs.GoodBytes.{IsGoodText};
-ghost use Rattle.wire_format.specs.RecordViews.{payload_of as seen_payload};
-ghost use Rattle.wire_format.specs.Scalars.{scalar_of as scalar_of_kind, is_packable as is_packable_kind, option_list, elements};
+ghost use Rattle.wire_records.specs.RecordViews.{payload_of as seen_payload};
+ghost use Rattle.wire_format.specs.Scalars.{scalar_of as scalar_of_kind, elements};
+ghost use Rattle.schema.specs.Soundness.{is_packable as is_packable_kind};
+ghost use Rattle.std.specs.Option.{option_to_list};
 
-use crate::checker::is_packable;
-use crate::payload::{Payload, payload_of};
 use crate::scalars::scalar_of;
 use crate::sizes::scalar_wire;
-use schema::{Item, List, NoMemory, Scalar};
+use base::{List, NoMemory};
+use schema::{Item, Scalar, is_packable};
 use std::alloc::Global;
+use wire_records::{Payload, payload_of};
 
 /// The last of the payloads that fit a scalar kind, as an item.
 pub(crate) fn last_scalar(
@@ -34,7 +36,7 @@ pub(crate) fn last_scalar(
 }
 
 /// Appends the items of a packed payload.
-#[tactic(auto, using(crate::proofs::CollectLemmas::packed_text))]
+#[tactic(auto, using(crate::proofs::decoding::CollectLemmas::packed_text))]
 fn push_elements(
     alloc: Global,
     scalar: Scalar,
@@ -66,7 +68,7 @@ fn push_scalar(
     items: &mut List<Item>,
 ) -> Result<(), NoMemory>
     requires { IsGoodText scalar (seen_payload payload) }
-    ensures { OnOk result (map out-Item items.new ≡ map out-Item items.old ++ option_list (scalar_of_kind scalar (seen_payload payload.entry))) }
+    ensures { OnOk result (map out-Item items.new ≡ map out-Item items.old ++ option_to_list (scalar_of_kind scalar (seen_payload payload.entry))) }
 {
     match scalar_of(alloc, scalar, payload)? {
         Some(item) => items.push(item),

@@ -4,11 +4,12 @@ ghost use Rattle.std.specs.Int.{w32, w64, cast_unsigned};
 ghost use Rattle.schema.specs.Validity.{IsWithin, IsInt64, IsScalarItem};
 ghost use Rattle.schema.specs.declared.value.Item.TheOpen.{Number};
 ghost use Rattle.wire_format.specs.CanonicalBytes.{number_bytes, zigzag};
-ghost use Rattle.wire_format.specs.Extends.{Extends};
+ghost use Rattle.base.specs.Extends.{Extends};
 ghost use Rattle.wire_format.specs.Sizes.{size_of};
 
-use crate::varint::{put_varint, varint_len};
-use schema::{NoMemory, Scalar};
+use base::NoMemory;
+use schema::Scalar;
+use wire_records::{put_bytes, put_varint, varint_len};
 
 /// A signed number of 64 bits by zigzag.
 fn zigzag_of(number: i128) -> u64
@@ -41,15 +42,6 @@ fn half_bits_of(number: i128) -> u32
         return (number + (1 << 32)) as u32;
     }
     number as u32
-}
-
-/// Appends bytes.
-pub(crate) fn put_bytes(out: &mut Vec<u8>, bytes: &[u8]) -> Result<(), NoMemory>
-    ensures ok { OnOk result (out.new.items ≡ out.old.items ++ bytes.now) }
-    ensures err { OnErr result (Extends out.old.items out.new.items) }
-{
-    out.extend_from_slice(bytes)?;
-    Ok(())
 }
 
 /// Appends a number of the scalar kind.

@@ -1,39 +1,15 @@
-//! The records of one message, and the payloads that count for a field (the encoding guide, "Last
+//! The payloads that count for a field (the encoding guide, "Last
 //! One Wins" and "Oneofs").
 ghost use Rattle.std.specs.Prelude.{◌≡◌, ◌++◌, if◌then◌else◌, map, IfOk};
 ghost use Rattle.std.specs.List.{flat_map, filter_map};
 ghost use Rattle.wire_format.specs.FieldValues.{payloads, sized_of, in_oneof as is_in_oneof, sets_other as is_setting_other, counted as counted_records, first_passes, since};
-ghost use Rattle.wire_format.specs.RecordViews.{raw_of, payload_of};
-ghost use Rattle.wire_format.specs.WireRecord.{records};
+ghost use Rattle.wire_records.specs.RecordViews.{raw_of, payload_of};
 
-use crate::groups::{RawRecord, record_of};
-use crate::payload::Payload;
 use crate::scalars::counts;
-use schema::{Field, NoMemory, Shape, find_field};
+use base::NoMemory;
+use schema::{Field, Shape, find_field};
 use std::alloc::Global;
-
-/// All records of bytes, with groups in so many levels.
-pub(crate) fn records_of(
-    alloc: Global,
-    bytes: &[u8],
-    level: u32,
-) -> Result<Vec<RawRecord<'_>>, NoMemory>
-    ensures { IfOk result (λ v. map raw_of v.items ≡ records level 0 bytes.now) }
-{
-    let mut found = Vec::new(alloc);
-    let mut at = 0;
-    while at < bytes.len() {
-        let (_, left) = bytes.split_at(at);
-        match record_of(left, level) {
-            Ok(record) => {
-                at += record.size;
-                found.push(record)?;
-            }
-            Err(_) => return Ok(found),
-        }
-    }
-    Ok(found)
-}
+use wire_records::{Payload, RawRecord};
 
 /// The payloads of a field number, in order.
 pub(crate) fn payloads_of<'a>(

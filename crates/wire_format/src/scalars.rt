@@ -5,14 +5,15 @@ ghost use Rattle.schema.specs.declared.value.Item.TheOpen.{Text as TextLayer};
 ghost use Rattle.schema.specs.declared.value.Item.{out-Item};
 ghost use Rattle.wire_format.specs.FieldValues.{counts as counts_for, stored as stored_slot, key_of as key_of_item, default_item as default_layer};
 ghost use Rattle.wire_format.specs.GoodBytes.{IsGoodText};
-ghost use Rattle.wire_format.specs.RecordViews.{payload_of};
+ghost use Rattle.wire_records.specs.RecordViews.{payload_of};
 ghost use Rattle.wire_format.specs.Scalars.{number_of as number_of_kind, scalar_of as scalar_of_kind, default_of, unzigzag};
 
-use crate::payload::Payload;
 use crate::sizes::scalar_wire;
-use schema::{Blob, Item, Key, Kind, NoMemory, Presence, Scalar, Slot, Text, Value, is_default};
+use base::{Blob, NoMemory, Text};
+use schema::{Item, Key, Kind, Presence, Scalar, Slot, Value, is_default};
 use std::alloc::Global;
 use std::str;
+use wire_records::{I32, I64, LEN, Payload, VARINT};
 
 /// The number that a zigzag varint stands for.
 fn unzigzag_of(n: u64) -> i128
@@ -86,11 +87,11 @@ fn fits(scalar: Scalar, payload: Payload<'_>) -> bool
     ensures { result ≡ is_some (scalar_of_kind scalar (payload_of payload.entry)) }
 {
     match payload {
-        Payload::Varint(_) => scalar_wire(scalar) == 0,
-        Payload::I64(_) => scalar_wire(scalar) == 1,
-        Payload::Len(_) => scalar_wire(scalar) == 2,
+        Payload::Varint(_) => scalar_wire(scalar) == VARINT,
+        Payload::I64(_) => scalar_wire(scalar) == I64,
+        Payload::Len(_) => scalar_wire(scalar) == LEN,
         Payload::Group => false,
-        Payload::I32(_) => scalar_wire(scalar) == 5,
+        Payload::I32(_) => scalar_wire(scalar) == I32,
     }
 }
 

@@ -6,27 +6,31 @@ ghost use Rattle.schema.specs.Validity.{IsScalarItem, IsItem, IsSlot, IsFieldSlo
 ghost use Rattle.schema.specs.Types.{field_in};
 ghost use Rattle.schema.specs.declared.value.Item.{out-Item};
 ghost use Rattle.schema.specs.declared.value.Slot.{out-Slot};
-ghost use Rattle.wire_format.specs.CanonicalBytes.{canonical_within, canonical_bytes, tag, wire_of as wire_of_kind, key_bytes, item_bytes, record_bytes, entry_bytes, entry_record, slot_bytes, field_bytes, entries_bytes, items_bytes, records_bytes, list_bytes, slots_bytes};
+ghost use Rattle.wire_format.specs.CanonicalBytes.{canonical_within, canonical_bytes, wire_of as wire_of_kind, key_bytes, item_bytes, record_bytes, entry_bytes, entry_record, slot_bytes, field_bytes, entries_bytes, items_bytes, records_bytes, list_bytes, slots_bytes};
+ghost use Rattle.wire_records.specs.RecordBytes.{tag};
 ghost use Rattle.wire_format.specs.Scalars.{scalar_wire as wire_of_scalar};
-ghost use Rattle.wire_format.specs.Sizes.{capped, size_of};
-ghost use Rattle.wire_format.specs.Varint.{varint};
+ghost use Rattle.base.specs.Saturated.{saturated};
+ghost use Rattle.wire_format.specs.Sizes.{size_of};
+ghost use Rattle.wire_records.specs.Varint.{varint};
 
 use crate::numbers::number_len;
-use crate::varint::varint_len;
-use schema::{Field, Item, Key, Kind, Scalar, Shape, Slot, TypeId, Types, Value, find_field};
+use schema::{
+    Field, Item, Key, Kind, MAX_LEVELS, Scalar, Shape, Slot, TypeId, Types, Value, find_field,
+};
+use wire_records::{I32, I64, LEN, VARINT, varint_len};
 
 /// The wire type of a scalar kind.
 pub(crate) fn scalar_wire(scalar: Scalar) -> u8
     ensures value { result ≡ wire_of_scalar scalar }
 {
     match scalar {
-        Scalar::Fixed32 => 5,
-        Scalar::Sfixed32 => 5,
-        Scalar::Fixed64 => 1,
-        Scalar::Sfixed64 => 1,
-        Scalar::Text => 2,
-        Scalar::Bytes => 2,
-        _ => 0,
+        Scalar::Fixed32 => I32,
+        Scalar::Sfixed32 => I32,
+        Scalar::Fixed64 => I64,
+        Scalar::Sfixed64 => I64,
+        Scalar::Text => LEN,
+        Scalar::Bytes => LEN,
+        _ => VARINT,
     }
 }
 
@@ -36,7 +40,7 @@ pub(crate) fn wire_of(kind: Kind) -> u8
 {
     match kind {
         Kind::One(scalar) => scalar_wire(scalar),
-        Kind::Message(_) => 2,
+        Kind::Message(_) => LEN,
     }
 }
 
@@ -49,7 +53,7 @@ fn tag_len(number: u32, wire: u8) -> u64
 
 /// How many bytes so many take behind their length.
 fn delimited_len(len: u64) -> u64
-    ensures { (n : ℕ) → len ≡ capped n → result ≡ capped (length (varint n) + n) }
+    ensures { (n : ℕ) → len ≡ saturated n → result ≡ saturated (length (varint n) + n) }
 {
     (varint_len(len) as u64).saturating_add(len)
 }
@@ -95,7 +99,7 @@ fn record_len(types: &Types, number: u32, kind: Kind, item: &Item, level: u32) -
 
 /// How many bytes items take without tags.
 #[cycle(size)]
-#[tactic(auto, using(crate::proofs::SizeLemmas::size_step, crate::proofs::SizeLemmas::size_done))]
+#[tactic(auto, using(crate::proofs::encoding::SizeLemmas::size_step, crate::proofs::encoding::SizeLemmas::size_done))]
 pub(crate) fn items_len(types: &Types, kind: Kind, items: &[Item], level: u32) -> u64
     requires { AllByRecursion (λ i. IsItem (valid_within level types.now) kind (out-Item i)) items.now }
     ensures { result ≡ size_of (items_bytes (canonical_within level types.now) kind items.now) }
@@ -109,7 +113,7 @@ pub(crate) fn items_len(types: &Types, kind: Kind, items: &[Item], level: u32) -
 
 /// How many bytes items take, each with its tag.
 #[cycle(size)]
-#[tactic(auto, using(crate::proofs::SizeLemmas::size_step, crate::proofs::SizeLemmas::size_done))]
+#[tactic(auto, using(crate::proofs::encoding::SizeLemmas::size_step, crate::proofs::encoding::SizeLemmas::size_done))]
 fn records_len(types: &Types, number: u32, kind: Kind, items: &[Item], level: u32) -> u64
     requires { AllByRecursion (λ i. IsItem (valid_within level types.now) kind (out-Item i)) items.now }
     ensures { result ≡ size_of (records_bytes (canonical_within level types.now) number kind items.now) }
@@ -123,7 +127,7 @@ fn records_len(types: &Types, number: u32, kind: Kind, items: &[Item], level: u3
 
 /// How many bytes an entry of a map takes: its key and its value.
 #[cycle(size)]
-#[tactic(auto, using(crate::proofs::ValidLemmas::entry_item, crate::proofs::ValidLemmas::entry_key))]
+#[tactic(auto, using(crate::proofs::encoding::ValidLemmas::entry_item, crate::proofs::encoding::ValidLemmas::entry_key))]
 pub(crate) fn entry_len(
     types: &Types,
     scalar: Scalar,
@@ -154,12 +158,12 @@ fn entry_record_len(
     ensures { result ≡ size_of (entry_record (canonical_within level types.now) number scalar kind (key.now, item.now)) }
 {
     let entry = delimited_len(entry_len(types, scalar, kind, key, item, level));
-    tag_len(number, 2).saturating_add(entry)
+    tag_len(number, LEN).saturating_add(entry)
 }
 
 /// How many bytes the entries of a map take, each with its tag and length.
 #[cycle(size)]
-#[tactic(auto, using(crate::proofs::SizeLemmas::size_step, crate::proofs::SizeLemmas::size_done))]
+#[tactic(auto, using(crate::proofs::encoding::SizeLemmas::size_step, crate::proofs::encoding::SizeLemmas::size_done))]
 fn entries_len(
     types: &Types,
     number: u32,
@@ -187,7 +191,7 @@ fn list_len(types: &Types, field: &Field, items: &[Item], level: u32) -> u64
 {
     if field.packed {
         let items = delimited_len(items_len(types, field.kind, items, level));
-        return tag_len(field.number, 2).saturating_add(items);
+        return tag_len(field.number, LEN).saturating_add(items);
     }
     records_len(types, field.number, field.kind, items, level)
 }
@@ -234,7 +238,7 @@ fn field_len(types: &Types, fields: &[Field], number: u32, slot: &Slot, level: u
 
 /// How many bytes slots take.
 #[cycle(size)]
-#[tactic(auto, using(crate::proofs::SizeLemmas::size_step, crate::proofs::SizeLemmas::size_done))]
+#[tactic(auto, using(crate::proofs::encoding::SizeLemmas::size_step, crate::proofs::encoding::SizeLemmas::size_done))]
 fn slots_len(types: &Types, fields: &[Field], slots: &[(u32, Slot)], level: u32) -> u64
     requires { AreFieldSlots (valid_within level types.now) fields.now slots.now }
     ensures { result ≡ size_of (slots_bytes (canonical_within level types.now) fields.now slots.now) }
@@ -248,7 +252,7 @@ fn slots_len(types: &Types, fields: &[Field], slots: &[(u32, Slot)], level: u32)
 
 /// How many bytes a message of so many levels takes.
 #[cycle(size)]
-#[tactic(auto, using(crate::proofs::ValidLemmas::message_slots))]
+#[tactic(auto, using(crate::proofs::encoding::ValidLemmas::message_slots))]
 pub(crate) fn message_len(types: &Types, id: TypeId, value: &Value, level: u32) -> u64
     requires { (valid_within level types.now).message id value.now }
     ensures { result ≡ size_of (canonical_within level types.now id value.now) }
@@ -266,5 +270,5 @@ pub fn encoded_len(types: &Types, id: TypeId, value: &Value) -> u64
     requires { IsValid types.now id value.now }
     ensures { result ≡ size_of (canonical_bytes types.now id value.now) }
 {
-    message_len(types, id, value, 100)
+    message_len(types, id, value, MAX_LEVELS)
 }

@@ -6,7 +6,8 @@ ghost use Rattle.schema.specs.declared.value.Item.{out-Item};
 ghost use Rattle.wire_format.specs.FieldValues.{many as many_slot, entries_slot, with_some, default_item as default_layer};
 
 use crate::scalars::default_item;
-use schema::{Item, Kind, List, NoMemory, Pairs, Slot, Value};
+use base::{List, NoMemory};
+use schema::{Item, Kind, Pairs, Slot, Value};
 use std::alloc::Global;
 
 /// The item, or the default of its kind.
@@ -39,7 +40,7 @@ pub(crate) fn entries(pairs: Pairs) -> Option<Slot>
     Some(Slot::Pairs(pairs))
 }
 
-/// Puts a slot into its place, where there is one.
+/// Puts a slot under its number, where there is one.
 pub(crate) fn put(value: &mut Value, number: u32, slot: Option<Slot>) -> Result<(), NoMemory>
     ensures { OnOk result (slots_of value.new ≡ with_some (slots_of value.old) number slot) }
 {

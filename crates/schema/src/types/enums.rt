@@ -1,7 +1,6 @@
 //! Enum types (descriptor.proto, EnumDescriptorProto).
 
-use crate::list::List;
-use crate::text::Text;
+use base::{List, Text};
 
 /// An enum type, by its index in `Types::enums`.
 #[derive(Debug, Clone, Copy, PartialEq, Eq)]

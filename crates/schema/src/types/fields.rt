@@ -1,8 +1,8 @@
 //! Fields of message types (descriptor.proto, FieldDescriptorProto).
 
-use crate::text::Text;
 use crate::types::enums::EnumId;
 use crate::types::messages::TypeId;
+use base::Text;
 
 /// A kind of value that is no message.
 #[derive(Debug, Clone, Copy, PartialEq, Eq)]

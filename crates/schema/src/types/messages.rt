@@ -1,9 +1,8 @@
 //! Message types (descriptor.proto, DescriptorProto).
 
-use crate::list::List;
-use crate::text::Text;
 use crate::types::enums::EnumType;
 use crate::types::fields::Field;
+use base::{List, Text};
 
 /// A message type, by its index in `Types::messages`.
 #[derive(Debug, Clone, Copy, PartialEq, Eq)]

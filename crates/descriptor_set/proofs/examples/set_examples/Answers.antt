@@ -16,9 +16,9 @@ use Rattle.schema.specs.declared.value.Slot.{Slot, roll-Slot}
 use Rattle.schema.specs.declared.value.Value.{Value}
 use Rattle.wire_format.specs.Decoding.{decoding}
 use Rattle.wire_format.specs.FieldValues.{meaning_within}
-use Rattle.wire_format.specs.Varint.{number_in}
+use Rattle.wire_records.specs.Varint.{number_in}
 use Rattle.wire_format.specs.WireFaults.{first_fault}
-use Rattle.wire_format.specs.WireRecord.{tag_in, payload_in, record_with, group_in, record_in}
+use Rattle.wire_records.specs.WireRecord.{tag_in, payload_in, record_with, group_in, record_in}
 use Rattle.descriptor_set.proofs.examples.set_examples.Goals as goal
 
 -- slots as they are decoded

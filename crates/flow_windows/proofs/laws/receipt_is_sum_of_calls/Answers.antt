@@ -1,5 +1,5 @@
-use Rattle.flow_windows.proofs.ReceiptLemmas.{allowance_after_all-sum}
+use Rattle.flow_windows.proofs.ReceiptLemmas.{allowance_after_all_sum}
 use Rattle.flow_windows.proofs.laws.receipt_is_sum_of_calls.Goals as goal
 
 pub returns : goal.returns
-returns c = allowance_after_all-sum
+returns c = allowance_after_all_sum

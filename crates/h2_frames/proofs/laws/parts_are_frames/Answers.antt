@@ -1,11 +1,11 @@
-use Rattle.h2_frames.proofs.RunLemmas.{run-tells, run-refused, position_after-reads}
+use Rattle.h2_frames.proofs.RunLemmas.{run_tells, run_refused, position_after_reads}
 use Rattle.h2_frames.proofs.laws.parts_are_frames.Goals as goal
 
 pub returns-clause-parts : goal.returns-clause-parts
-returns-clause-parts c = run-tells
+returns-clause-parts c = run_tells
 
 pub returns-clause-refused : goal.returns-clause-refused
-returns-clause-refused c = run-refused
+returns-clause-refused c = run_refused
 
 pub returns-clause-read : goal.returns-clause-read
-returns-clause-read c = position_after-reads
+returns-clause-read c = position_after_reads

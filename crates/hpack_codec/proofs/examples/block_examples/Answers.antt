@@ -15,4 +15,7 @@ returns c = record {
   large_size = refl;
   evicted = refl;
   sizes = refl;
+  added = refl;
+  newest = refl;
+  past_newest = refl;
 }

@@ -1,5 +1,5 @@
 use Rattle.std.proofs.Common.{refl}
-use Rattle.hpack_codec.specs.PrefixInteger.{groups_of}
+use Rattle.base.specs.Base128.{groups_of}
 use Rattle.hpack_codec.proofs.examples.integer_examples.Goals as goal
 
 pub returns : goal.returns

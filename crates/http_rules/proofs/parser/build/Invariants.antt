@@ -4,4 +4,4 @@ use Rattle.http_rules.specs.TemplateLimits.{AreFew}
 use Rattle.http_rules.proofs.parser.build.Given as goal
 
 abbrev pub invariant-loop-byte : goal.invariant-loop-byte
-invariant-loop-byte l = (run (Some l.place) l.parts (drop l.byte-index l.text) ≡ read_template l.text) × AreFew l.parts
+invariant-loop-byte l = (run (Some l.state) l.parts (drop l.byte-index l.text) ≡ read_template l.text) × AreFew l.parts

@@ -1,7 +1,7 @@
 use Rattle.std.proofs.Common.{◌≡◌, take, Some}
-use Rattle.http_rules.specs.declared.place.Place.TheVariants as place
+use Rattle.http_rules.specs.declared.state.State.TheVariants as state
 use Rattle.http_rules.specs.TemplateMachine.{reach}
 use Rattle.http_rules.proofs.parser.syntax_fault.Given as goal
 
 abbrev pub invariant-loop-i : goal.invariant-loop-i
-invariant-loop-i l = reach (Some place.Start) (take l.i l.text) ≡ Some l.place
+invariant-loop-i l = reach (Some state.Start) (take l.i l.text) ≡ Some l.state

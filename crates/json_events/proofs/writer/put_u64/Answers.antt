@@ -1,6 +1,6 @@
 -- The digits denote the number.
 use Rattle.std.proofs.Common.{refl, arith, decimal}
-use Rattle.json_events.proofs.DecimalLemmas.{decimal_denotes}
+use Rattle.json_events.proofs.writing.DecimalLemmas.{decimal_denotes}
 use Rattle.json_events.proofs.writer.put_u64.Goals as goal
 
 pub returns-clause-means : goal.returns-clause-means

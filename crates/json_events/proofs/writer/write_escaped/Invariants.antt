@@ -1,5 +1,5 @@
 use Rattle.std.proofs.Common.{◌≡◌, ◌++◌, length}
-use Rattle.json_events.specs.AppendedBytes.{Extends}
+use Rattle.base.specs.Extends.{Extends}
 use Rattle.json_events.specs.StringOutput.{escaped}
 use Rattle.json_events.proofs.writer.write_escaped.Given as goal
 

@@ -1,6 +1,6 @@
 use Rattle.std.proofs.Common.{◌≡◌, ◌+◌, drop}
 use Rattle.std.specs.Prelude.{option_map}
-use Rattle.schema.specs.SlotPlaces.{first_in}
+use Rattle.schema.specs.SlotSearch.{first_in}
 use Rattle.schema.proofs.value.position_of.Given as goal
 
 abbrev pub invariant-loop-i : goal.invariant-loop-i

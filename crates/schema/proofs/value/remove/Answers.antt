@@ -1,6 +1,6 @@
 use Rattle.std.proofs.Common.{◌≡◌, ◌∙◌, Some}
-use Rattle.schema.specs.SlotPlaces.{first_in}
-use Rattle.schema.proofs.PlaceLemmas.{first_remove}
+use Rattle.schema.specs.SlotSearch.{first_in}
+use Rattle.schema.proofs.SearchLemmas.{first_remove}
 use Rattle.schema.proofs.value.remove.Goals as goal
 
 pub returns-in-Some-clause-fields : goal.returns-in-Some-clause-fields

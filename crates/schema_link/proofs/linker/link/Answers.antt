@@ -5,10 +5,9 @@ use Rattle.descriptor_pool.specs.DeclaredTypes.{types_in}
 use Rattle.descriptor_pool.specs.ReachableTypes.{reachable}
 use Rattle.descriptor_pool.specs.SetMethods.{BoundMethod, bound_methods}
 use Rattle.schema_link.specs.SetApi.{IsServed}
-use Rattle.schema_link.specs.SetFaults.{all_faults, faults}
+use Rattle.set_faults.specs.SetFaults.{all_faults, faults}
 use Rattle.schema_link.specs.declared.api.Api.{Api}
 use Rattle.schema_link.proofs.ServedLemmas.{few_types, not_built}
-use Rattle.schema_link.proofs.SoundTypes.{linked_sound}
 use Rattle.schema_link.proofs.linker.link.Goals as goal
 
 pub served_api-requires-clause-messages : goal.served_api-requires-clause-messages
@@ -50,4 +49,4 @@ returns-in-Some-clause-sound c =
     let served =
     subst (λ z. IsServed (types_in (declarations set)) z api) bound
     (subst (λ z. IsServed z ms api) (c.in_ok-types.ensures ∙ ap types_in declared) (rw c.in-Some.is at c.in_ok-api.ensures)) in
-    linked_sound set api (none, served)
+    c.what_is_linked_is_sound.ensures set api (none, served)

@@ -8,7 +8,7 @@ pub returns-in-Some-2 : goal.returns-in-Some-2
 returns-in-Some-2 c =
     let text = ap (λ z. get_of z.rule) (sym c.method.view_is) ∙ sym c.in-Some-get_of.ensures in
     let template = subst (λ z. IsTemplateOf z c.in-Some-2.named.template c.in-Some-2.named.name) c.as_str.ensures.value (rw c.in-Some-2.is at c.in_ok-named.ensures) in
-    method_serves c.args.types.now c.args.methods.now c.in-Some.method.now c.in-Some-get_of.text.now c.in-Some-2.named.template c.in-Some-2.named.name c.args.reached.now c.api_with.result
+    method_serves c.args.types.now c.args.methods.now c.a_text_has_one_name.ensures c.in-Some.method.now c.in-Some-get_of.text.now c.in-Some-2.named.template c.in-Some-2.named.name c.args.reached.now c.api_with.result
     (sym c.in-Some.ensures) text template c.requires.reached c.api_with.ensures
 
 pub returns-in-None : goal.returns-in-None

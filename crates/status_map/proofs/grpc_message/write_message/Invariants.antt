@@ -1,5 +1,5 @@
 use Rattle.std.proofs.Common.{◌≡◌, ◌++◌}
-use Rattle.json_events.specs.AppendedBytes.{Extends}
+use Rattle.base.specs.Extends.{Extends}
 use Rattle.percent_encoding.specs.Iter.{encoded_text}
 use Rattle.percent_encoding.specs.Percent.{percent_encode}
 use Rattle.status_map.specs.declared.grpc_message.TheConstants.{ESCAPED}

@@ -4,10 +4,11 @@ use Rattle.schema.specs.Types.{field_in}
 use Rattle.schema.specs.declared.types.fields.Field.{Field}
 use Rattle.schema.specs.declared.types.messages.Types.{Types}
 use Rattle.wire_format.specs.Checks.{Finds}
-use Rattle.wire_format.specs.RecordViews.{raw_of}
-use Rattle.wire_format.specs.WireFaults.{Fault, Wire, records_fault, field_fault, first_fault}
-use Rattle.wire_format.specs.WireRecord.{Record}
-use Rattle.wire_format.proofs.FaultLemmas.{records_go_on, records_stop_at, records_found, fault_none, fault_open}
+use Rattle.wire_records.specs.RecordViews.{raw_of}
+use Rattle.wire_format.specs.WireFaults.{as_wire, Fault, Wire, field_fault, first_fault}
+use Rattle.wire_records.specs.RecordFaults.{records_fault}
+use Rattle.wire_records.specs.WireRecord.{Record}
+use Rattle.wire_format.proofs.decoding.FaultLemmas.{records_go_on, records_stop_at, records_found, fault_none, fault_open}
 use Rattle.wire_format.proofs.checker.+check.Goals as goal
 
 -- the check of each record of a message
@@ -22,7 +23,7 @@ check_message-loop-at-init t c = record {
   some = c.if-level-eq0.false;
   within = omega arith;
   told = let e : c.args.place + 0 ≡ c.args.place = omega arith in
-      ap (λ (p : ℕ). records_fault (checking (c.args.level - 1) c.args.types.now c.args.fields.now) (c.args.level - 1) p 0 c.args.bytes.now) e
+      ap (λ (p : ℕ). records_fault as_wire (checking (c.args.level - 1) c.args.types.now c.args.fields.now) (c.args.level - 1) p 0 c.args.bytes.now) e
       ∙ sym (fault_open c.args.level c.args.types.now c.args.fields.now c.args.place c.args.bytes.now c.if-level-eq0.false);
 }
 

@@ -1,6 +1,7 @@
 use Rattle.std.proofs.Common.{◌≡◌, ◌+◌, ◌-◌, ◌*◌, ◌≤◌, length, drop}
 use Rattle.schema.specs.Types.{field_in}
-use Rattle.wire_format.specs.WireFaults.{records_fault, field_fault, first_fault}
+use Rattle.wire_records.specs.RecordFaults.{records_fault}
+use Rattle.wire_format.specs.WireFaults.{as_wire, field_fault, first_fault}
 use Rattle.wire_format.proofs.checker.+check.Given as goal
 
 abbrev pub decreases-check_payload : goal.decreases-check_payload
@@ -19,6 +20,6 @@ abbrev pub invariant-check_message-loop-at : goal.invariant-check_message-loop-a
 invariant-check_message-loop-at l = record {
   some : l.level ≡ 0 → ⊥;
   within : l.at ≤ length l.bytes;
-  told : records_fault (λ at r. field_fault (first_fault (l.level - 1) l.types) l.types (l.level - 1) (field_in l.fields r.number) at r) (l.level - 1) (l.place + l.at) 0 (drop l.at l.bytes)
+  told : records_fault as_wire (λ at r. field_fault (first_fault (l.level - 1) l.types) l.types (l.level - 1) (field_in l.fields r.number) at r) (l.level - 1) (l.place + l.at) 0 (drop l.at l.bytes)
       ≡ first_fault l.level l.types l.fields l.place l.bytes;
 }

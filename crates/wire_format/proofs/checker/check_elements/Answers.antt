@@ -1,6 +1,6 @@
 use Rattle.std.proofs.Common.{sym, arith, subst, Err}
 use Rattle.wire_format.specs.Checks.{Finds}
-use Rattle.wire_format.proofs.FaultLemmas.{elements_go_on, elements_stop}
+use Rattle.wire_format.proofs.decoding.FaultLemmas.{elements_go_on, elements_stop}
 use Rattle.wire_format.proofs.checker.check_elements.Goals as goal
 
 pub loop-at-preserved : goal.loop-at-preserved

@@ -2,14 +2,14 @@ use Rattle.std.proofs.Common.{◌-◌, ◌∙◌, ℕ, List, Bor, map, ap, sym, 
 use Rattle.schema.specs.declared.types.fields.Kind.TheVariants.{One as OneOf}
 use Rattle.wire_format.specs.FieldValues.{payloads, counted, slot_of, meaning_within}
 use Rattle.wire_format.specs.GoodBytes.{AreGood}
-use Rattle.wire_format.specs.RecordViews.{raw_of, payload_of}
+use Rattle.wire_records.specs.RecordViews.{raw_of, payload_of}
 use Rattle.wire_format.specs.WireFaults.{entry_field, entry_fields}
-use Rattle.wire_format.specs.WireRecord.{records}
-use Rattle.wire_format.proofs.EntryLemmas.{puts, puts_all}
-use Rattle.wire_format.proofs.ExitLemmas.{if_ok_weaker}
-use Rattle.wire_format.proofs.GoodLemmas.{good_some, good_open, chunks_good, chunks_entries, joined_good, payloads_good, counted_good, single_good}
-use Rattle.wire_format.proofs.ItemLemmas.{gather_onto, gather_step, gather_is}
-use Rattle.wire_format.proofs.MeaningLemmas.{message_open, entry_is, entry_open}
+use Rattle.wire_records.specs.WireRecord.{records}
+use Rattle.wire_format.proofs.decoding.EntryLemmas.{puts, puts_all}
+use Rattle.std.proofs.lemmas.Result.{IfOk-weaker}
+use Rattle.wire_format.proofs.decoding.GoodLemmas.{good_some, good_open, chunks_good, chunks_entries, joined_good, payloads_good, counted_good, single_good}
+use Rattle.wire_format.proofs.decoding.ItemLemmas.{gather_onto, gather_step, gather_is}
+use Rattle.wire_format.proofs.decoding.MeaningLemmas.{message_open, entry_is, entry_open}
 use Rattle.wire_format.proofs.decoder.+value.Goals as goal
 
 abbrev bytes_in : Bor (List ℕ) → List ℕ
@@ -97,6 +97,6 @@ message_of-gathered-requires t c =
 pub message_of-returns : goal.message_of-returns
 message_of-returns t c =
     let some = good_some c.args.level c.args.types.now c.args.fields.now c.args.bytes.now c.requires in
-    if_ok_weaker c.gathered.result
+    IfOk-weaker c.gathered.result _ _
     (λ v h. message_open c.args.level c.args.types.now c.args.fields.now c.args.bytes.now (map raw_of c.as_slice.result.now) v some (ap (map raw_of) c.as_slice.ensures.value ∙ c.in_ok-records.ensures) h)
     c.gathered.ensures

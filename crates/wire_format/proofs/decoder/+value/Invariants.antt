@@ -4,10 +4,10 @@ use Rattle.schema.specs.Value.{slots_of}
 use Rattle.schema.specs.declared.value.Item.{out-Item}
 use Rattle.wire_format.specs.FieldValues.{items_of, last_entries, slot_of, gather, meaning_within}
 use Rattle.wire_format.specs.GoodBytes.{IsGoodItem, AreGood}
-use Rattle.wire_format.specs.RecordViews.{raw_of, payload_of}
+use Rattle.wire_records.specs.RecordViews.{raw_of, payload_of}
 use Rattle.wire_format.specs.WireFaults.{entry_fields}
-use Rattle.wire_format.proofs.EntryLemmas.{puts}
-use Rattle.wire_format.proofs.ItemLemmas.{gather_onto}
+use Rattle.wire_format.proofs.decoding.EntryLemmas.{puts}
+use Rattle.wire_format.proofs.decoding.ItemLemmas.{gather_onto}
 use Rattle.wire_format.proofs.decoder.+value.Given as goal
 
 abbrev pub invariant-list_of-loop-payload : goal.invariant-list_of-loop-payload

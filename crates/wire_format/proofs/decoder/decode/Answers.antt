@@ -1,4 +1,4 @@
-use Rattle.wire_format.proofs.DecodedIsValid.{bytes_below, valid_answer}
+use Rattle.wire_format.proofs.validity.DecodedIsValid.{bytes_below, valid_answer}
 use Rattle.wire_format.proofs.decoder.decode.Goals as goal
 
 pub returns-clause-valid : goal.returns-clause-valid

@@ -1,5 +1,5 @@
 use Rattle.std.proofs.Common.{arith}
-use Rattle.wire_format.proofs.GoodLemmas.{good_within}
+use Rattle.wire_format.proofs.decoding.GoodLemmas.{good_within}
 use Rattle.wire_format.proofs.decoder.decoded.Goals as goal
 
 pub message_of-requires : goal.message_of-requires

@@ -1,7 +1,7 @@
 use Rattle.std.proofs.Common.{◌++◌, ◌∙◌, ap, arith}
 use Rattle.std.proofs.lemmas.Result.{on_ok_weaker}
-use Rattle.wire_format.proofs.ExitLemmas.{on_any, extends_more}
-use Rattle.wire_format.proofs.ValidLemmas.{no_message, message_slots, canonical_open}
+use Rattle.base.proofs.ExtendsLemmas.{on_any, extends_more}
+use Rattle.wire_format.proofs.encoding.ValidLemmas.{no_message, message_slots, canonical_open}
 use Rattle.wire_format.proofs.encoder.+put.Goals as goal
 
 pub put_items-returns-in_err-put_item-clause-err : goal.put_items-returns-in_err-put_item-clause-err

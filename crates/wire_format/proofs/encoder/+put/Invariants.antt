@@ -3,7 +3,7 @@ use Rattle.std.specs.List.{AllByRecursion}
 use Rattle.schema.specs.Validity.{IsItem, AreFieldSlots, valid_within}
 use Rattle.schema.specs.declared.value.Item.{out-Item}
 use Rattle.wire_format.specs.CanonicalBytes.{canonical_within, items_bytes, records_bytes, entries_bytes, slots_bytes}
-use Rattle.wire_format.specs.Extends.{Extends}
+use Rattle.base.specs.Extends.{Extends}
 use Rattle.wire_format.proofs.encoder.+put.Given as goal
 
 abbrev pub invariant-put_items-loop-item : goal.invariant-put_items-loop-item

@@ -9,10 +9,10 @@ use Rattle.schema.specs.declared.value.Slot.{roll-Slot, One}
 use Rattle.schema.specs.declared.value.Value.{Value}
 use Rattle.wire_format.specs.Decoding.{decoding}
 use Rattle.wire_format.specs.FieldValues.{meaning_within}
-use Rattle.wire_format.specs.Varint.{number_in}
+use Rattle.wire_records.specs.Varint.{number_in}
 use Rattle.wire_format.specs.WireFaults.{Fault, first_fault}
 use Rattle.wire_format.specs.WorkedExamples.{book_types, book, marked}
-use Rattle.wire_format.specs.WireRecord.{tag_in, payload_in, record_with, group_in, record_in}
+use Rattle.wire_records.specs.WireRecord.{tag_in, payload_in, record_with, group_in, record_in}
 use Rattle.wire_format.proofs.examples.decoding_examples.Goals as goal
 
 -- values as they are read, level by level

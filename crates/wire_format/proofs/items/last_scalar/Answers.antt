@@ -1,8 +1,8 @@
 use Rattle.std.proofs.Common.{map}
 use Rattle.std.specs.List.{filter_map}
-use Rattle.wire_format.specs.RecordViews.{payload_of}
+use Rattle.wire_records.specs.RecordViews.{payload_of}
 use Rattle.wire_format.specs.Scalars.{scalar_of}
-use Rattle.wire_format.proofs.ItemLemmas.{last_is}
+use Rattle.wire_format.proofs.decoding.ItemLemmas.{last_is}
 use Rattle.wire_format.proofs.items.last_scalar.Goals as goal
 
 pub loop-payload-init : goal.loop-payload-init

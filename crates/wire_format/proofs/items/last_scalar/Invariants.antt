@@ -4,9 +4,9 @@ use Rattle.std.specs.Prelude.{option_map}
 use Rattle.schema.specs.declared.value.Item.{out-Item}
 use Rattle.wire_format.specs.FieldValues.{last_of}
 use Rattle.wire_format.specs.GoodBytes.{IsGoodText}
-use Rattle.wire_format.specs.RecordViews.{payload_of}
+use Rattle.wire_records.specs.RecordViews.{payload_of}
 use Rattle.wire_format.specs.Scalars.{scalar_of}
-use Rattle.wire_format.proofs.ItemLemmas.{last_after}
+use Rattle.wire_format.proofs.decoding.ItemLemmas.{last_after}
 use Rattle.wire_format.proofs.items.last_scalar.Given as goal
 
 abbrev pub invariant-loop-payload : goal.invariant-loop-payload

@@ -1,6 +1,6 @@
 use Rattle.std.proofs.Common.{map, arith}
 use Rattle.schema.specs.declared.value.Item.{out-Item}
-use Rattle.wire_format.proofs.CollectLemmas.{elements_more, elements_stopped}
+use Rattle.wire_format.proofs.decoding.CollectLemmas.{elements_more, elements_stopped}
 use Rattle.wire_format.proofs.items.push_elements.Goals as goal
 
 pub loop-at-preserved : goal.loop-at-preserved

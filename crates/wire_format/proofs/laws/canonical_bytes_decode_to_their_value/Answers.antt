@@ -1,4 +1,4 @@
-use Rattle.wire_format.proofs.RoundTrip.{round_trip, short_lengths}
+use Rattle.wire_format.proofs.round_trip.RoundTrip.{round_trip, short_lengths}
 use Rattle.wire_format.proofs.laws.canonical_bytes_decode_to_their_value.Goals as goal
 
 pub returns-clause-lengths : goal.returns-clause-lengths

@@ -1,4 +1,4 @@
-use Rattle.wire_format.proofs.DecodedIsValid.{decoded_valid}
+use Rattle.wire_format.proofs.validity.DecodedIsValid.{decoded_valid}
 use Rattle.wire_format.proofs.laws.decoded_values_are_valid.Goals as goal
 
 pub returns : goal.returns

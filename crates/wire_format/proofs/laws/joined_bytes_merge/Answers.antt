@@ -1,7 +1,7 @@
 use Rattle.wire_format.specs.CanonicalBytes.{canonical_bytes}
-use Rattle.wire_format.proofs.KeptLemmas.{canonical_keep}
-use Rattle.wire_format.proofs.MergedBytes.{merged_bytes}
-use Rattle.wire_format.proofs.RoundTrip.{round_trip}
+use Rattle.wire_format.proofs.merging.KeptLemmas.{canonical_keep}
+use Rattle.wire_format.proofs.merging.MergedBytes.{merged_bytes}
+use Rattle.wire_format.proofs.round_trip.RoundTrip.{round_trip}
 use Rattle.wire_format.proofs.laws.joined_bytes_merge.Goals as goal
 
 pub returns-clause-kept : goal.returns-clause-kept

@@ -1,4 +1,4 @@
-use Rattle.wire_format.proofs.MessageReadLemmas.{sound_fields}
+use Rattle.wire_format.proofs.round_trip.MessageReadLemmas.{sound_fields}
 use Rattle.wire_format.proofs.laws.sound_types_have_sound_fields.Goals as goal
 
 pub returns : goal.returns

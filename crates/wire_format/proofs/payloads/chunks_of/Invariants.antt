@@ -1,7 +1,7 @@
 use Rattle.std.proofs.Common.{◌≡◌, ◌++◌, drop, map}
 use Rattle.std.specs.List.{filter_map}
 use Rattle.wire_format.specs.FieldValues.{sized_of}
-use Rattle.wire_format.specs.RecordViews.{payload_of}
+use Rattle.wire_records.specs.RecordViews.{payload_of}
 use Rattle.wire_format.proofs.payloads.chunks_of.Given as goal
 
 abbrev pub invariant-loop-payload : goal.invariant-loop-payload

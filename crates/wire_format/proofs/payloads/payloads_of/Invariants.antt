@@ -1,6 +1,6 @@
 use Rattle.std.proofs.Common.{◌≡◌, ◌++◌, drop, map}
 use Rattle.wire_format.specs.FieldValues.{payloads}
-use Rattle.wire_format.specs.RecordViews.{raw_of, payload_of}
+use Rattle.wire_records.specs.RecordViews.{raw_of, payload_of}
 use Rattle.wire_format.proofs.payloads.payloads_of.Given as goal
 
 abbrev pub invariant-loop-record : goal.invariant-loop-record

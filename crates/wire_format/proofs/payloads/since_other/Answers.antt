@@ -1,7 +1,7 @@
 use Rattle.std.proofs.Common.{map, arith}
 use Rattle.wire_format.specs.FieldValues.{sets_other}
-use Rattle.wire_format.specs.RecordViews.{raw_of}
-use Rattle.wire_format.proofs.OneofLemmas.{since_begins, since_next, between}
+use Rattle.wire_records.specs.RecordViews.{raw_of}
+use Rattle.wire_format.proofs.decoding.OneofLemmas.{since_begins, since_next, between}
 use Rattle.wire_format.proofs.payloads.since_other.Goals as goal
 
 pub loop-at-init : goal.loop-at-init

@@ -1,7 +1,7 @@
 use Rattle.std.proofs.Common.{◌≡◌, ◌≤◌, ◌-◌, drop, length, map}
 use Rattle.wire_format.specs.FieldValues.{since, sets_other}
-use Rattle.wire_format.specs.RecordViews.{raw_of}
-use Rattle.wire_format.proofs.OneofLemmas.{since_or}
+use Rattle.wire_records.specs.RecordViews.{raw_of}
+use Rattle.wire_format.proofs.decoding.OneofLemmas.{since_or}
 use Rattle.wire_format.proofs.payloads.since_other.Given as goal
 
 abbrev pub decreases-loop-at : goal.decreases-loop-at

@@ -1,9 +1,10 @@
 use Rattle.std.proofs.Common.{◌-◌, ◌+◌, ◌^◌, ◌++◌, ◌∙◌, ap, arith, refl}
 use Rattle.std.specs.Prelude.{min}
-use Rattle.wire_format.specs.CanonicalBytes.{canonical_within, tag, key_bytes, record_bytes, items_bytes, records_bytes, entries_bytes, slots_bytes}
+use Rattle.wire_format.specs.CanonicalBytes.{canonical_within, key_bytes, record_bytes, items_bytes, records_bytes, entries_bytes, slots_bytes}
+use Rattle.wire_records.specs.RecordBytes.{tag}
 use Rattle.wire_format.specs.Sizes.{size_of}
-use Rattle.wire_format.proofs.SizeLemmas.{size_three, size_end}
-use Rattle.wire_format.proofs.ValidLemmas.{no_message, message_slots, canonical_open}
+use Rattle.wire_format.proofs.encoding.SizeLemmas.{size_three, size_end}
+use Rattle.wire_format.proofs.encoding.ValidLemmas.{no_message, message_slots, canonical_open}
 use Rattle.wire_format.proofs.sizes.+size.Goals as goal
 
 pub items_len-returns : goal.items_len-returns

@@ -3,35 +3,36 @@ use Rattle.std.specs.List.{AllByRecursion}
 use Rattle.schema.specs.Validity.{IsItem, AreFieldSlots, valid_within}
 use Rattle.schema.specs.declared.value.Item.{out-Item}
 use Rattle.wire_format.specs.CanonicalBytes.{canonical_within, items_bytes, records_bytes, entries_bytes, slots_bytes}
-use Rattle.wire_format.specs.Sizes.{capped, size_of}
+use Rattle.base.specs.Saturated.{saturated}
+use Rattle.wire_format.specs.Sizes.{size_of}
 use Rattle.wire_format.proofs.sizes.+size.Given as goal
 
 abbrev pub invariant-items_len-loop-item : goal.invariant-items_len-loop-item
 invariant-items_len-loop-item l = record {
   rest : AllByRecursion (λ i. IsItem (valid_within l.level l.types) l.kind (out-Item i)) (drop l.item-index l.items);
   small : l.total < 2 ^ 64;
-  told : capped (l.total + length (items_bytes (canonical_within l.level l.types) l.kind (drop l.item-index l.items))) ≡ size_of (items_bytes (canonical_within l.level l.types) l.kind l.items);
+  told : saturated (l.total + length (items_bytes (canonical_within l.level l.types) l.kind (drop l.item-index l.items))) ≡ size_of (items_bytes (canonical_within l.level l.types) l.kind l.items);
 }
 
 abbrev pub invariant-records_len-loop-item : goal.invariant-records_len-loop-item
 invariant-records_len-loop-item l = record {
   rest : AllByRecursion (λ i. IsItem (valid_within l.level l.types) l.kind (out-Item i)) (drop l.item-index l.items);
   small : l.total < 2 ^ 64;
-  told : capped (l.total + length (records_bytes (canonical_within l.level l.types) l.number l.kind (drop l.item-index l.items))) ≡ size_of (records_bytes (canonical_within l.level l.types) l.number l.kind l.items);
+  told : saturated (l.total + length (records_bytes (canonical_within l.level l.types) l.number l.kind (drop l.item-index l.items))) ≡ size_of (records_bytes (canonical_within l.level l.types) l.number l.kind l.items);
 }
 
 abbrev pub invariant-entries_len-loop-key : goal.invariant-entries_len-loop-key
 invariant-entries_len-loop-key l = record {
   rest : AllByRecursion ((valid_within l.level l.types).entry l.scalar l.kind) (drop l.key-index l.entries);
   small : l.total < 2 ^ 64;
-  told : capped (l.total + length (entries_bytes (canonical_within l.level l.types) l.number l.scalar l.kind (drop l.key-index l.entries))) ≡ size_of (entries_bytes (canonical_within l.level l.types) l.number l.scalar l.kind l.entries);
+  told : saturated (l.total + length (entries_bytes (canonical_within l.level l.types) l.number l.scalar l.kind (drop l.key-index l.entries))) ≡ size_of (entries_bytes (canonical_within l.level l.types) l.number l.scalar l.kind l.entries);
 }
 
 abbrev pub invariant-slots_len-loop-number : goal.invariant-slots_len-loop-number
 invariant-slots_len-loop-number l = record {
   rest : AreFieldSlots (valid_within l.level l.types) l.fields (drop l.number-index l.slots);
   small : l.total < 2 ^ 64;
-  told : capped (l.total + length (slots_bytes (canonical_within l.level l.types) l.fields (drop l.number-index l.slots))) ≡ size_of (slots_bytes (canonical_within l.level l.types) l.fields l.slots);
+  told : saturated (l.total + length (slots_bytes (canonical_within l.level l.types) l.fields (drop l.number-index l.slots))) ≡ size_of (slots_bytes (canonical_within l.level l.types) l.fields l.slots);
 }
 
 abbrev pub decreases-item_len : goal.decreases-item_len

@@ -1,6 +1,6 @@
 use Rattle.std.proofs.Common.{sym, ◌∙◌}
 use Rattle.std.proofs.lemmas.Bool.{eqb-false}
-use Rattle.wire_format.proofs.ItemLemmas.{many_some}
+use Rattle.wire_format.proofs.decoding.ItemLemmas.{many_some}
 use Rattle.wire_format.proofs.slots.many.Goals as goal
 
 pub returns : goal.returns

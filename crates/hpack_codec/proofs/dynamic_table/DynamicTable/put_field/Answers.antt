@@ -1,15 +1,15 @@
 use Rattle.std.proofs.Common.{◌∙◌}
-use Rattle.hpack_codec.proofs.TablePlaces.{field-put, name-len, within-lengths}
+use Rattle.hpack_codec.proofs.FieldStarts.{field_put, name_len, within_lengths}
 use Rattle.hpack_codec.proofs.dynamic_table.DynamicTable.put_field.Goals as goal
 
-pub place_of-start-requires-clause-within : goal.place_of-start-requires-clause-within
-place_of-start-requires-clause-within c = within-lengths c.self.inside.lengths.items c.self.inside.bytes.items c.self.inside.max_size c.args.i c.args.self.now c.self.view_is c.requires.within
+pub field_start-start-requires-clause-within : goal.field_start-start-requires-clause-within
+field_start-start-requires-clause-within c = within_lengths c.self.inside.lengths.items c.self.inside.bytes.items c.self.inside.max_size c.args.i c.args.self.now c.self.view_is c.requires.within
 
 pub returns-clause-field : goal.returns-clause-field
 returns-clause-field c =
     c.append_range.ensures.items
-    ∙ field-put c.self.inside.lengths.items c.self.inside.bytes.items c.self.inside.max_size c.args.i c.place_of-start.result.0 c.place_of-start.result.1 c.args.self.now c.args.out.now.items c.self.view_is c.requires.within c.place_of-start.ensures c.self.invariant.2
+    ∙ field_put c.self.inside.lengths.items c.self.inside.bytes.items c.self.inside.max_size c.args.i c.field_start-start.result.0 c.field_start-start.result.1 c.args.self.now c.args.out.now.items c.self.view_is c.requires.within c.field_start-start.ensures c.self.invariant.2
 
 pub returns-clause-name : goal.returns-clause-name
 returns-clause-name c =
-    name-len c.self.inside.lengths.items c.self.inside.bytes.items c.self.inside.max_size c.args.i c.place_of-start.result.0 c.place_of-start.result.1 c.args.self.now c.self.view_is c.requires.within c.place_of-start.ensures c.self.invariant.2
+    name_len c.self.inside.lengths.items c.self.inside.bytes.items c.self.inside.max_size c.args.i c.field_start-start.result.0 c.field_start-start.result.1 c.args.self.now c.self.view_is c.requires.within c.field_start-start.ensures c.self.invariant.2

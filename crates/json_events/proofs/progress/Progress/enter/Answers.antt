@@ -1,7 +1,7 @@
 use Rattle.std.proofs.Common.{sym, ap, ◌∙◌, subst}
 use Rattle.json_events.specs.WordSteps.{begin, first_held}
 use Rattle.json_events.specs.ProgressSeen.{reading_of, IsMarkFault}
-use Rattle.json_events.proofs.PutLemmas.{entry_fault}
+use Rattle.json_events.proofs.reading.PutLemmas.{entry_fault}
 use Rattle.json_events.proofs.progress.Progress.enter.Goals as goal
 
 pub returns-in-Err-clause-err : goal.returns-in-Err-clause-err

@@ -6,7 +6,7 @@ use Rattle.json_events.specs.declared.state.WordState.{WordState}
 use Rattle.json_events.specs.ReaderState.{Reading}
 use Rattle.json_events.specs.ReaderAnswers.{StandsOn, IsFaultBehind, pending_word}
 use Rattle.json_events.specs.ProgressSeen.{reading_of}
-use Rattle.json_events.proofs.StandLemmas.{on_then, fault_then}
+use Rattle.json_events.proofs.reading.StandLemmas.{on_then, fault_then}
 use Rattle.json_events.proofs.progress.Progress.read.Goals as goal
 
 -- more of the bytes, behind so many
@@ -45,7 +45,7 @@ bytes-preserved c =
       within = omega (arith, e.within, ap length (rest_is bytes k), length-drop k bytes);
       readable = e.readable;
       stands = more_of (reading_of c.args.self.now) now new bytes k fed.taken None c.bytes.invariant.stands quiet;
-      pending = omega (arith, pending_small c.run.new.self.word, e.moves.0 c.in-None.is);
+      pending = omega (arith, pending_small new.word, e.moves.0 c.in-None.is);
     }
 
 pub returns-in-Some-clause-stands : goal.returns-in-Some-clause-stands

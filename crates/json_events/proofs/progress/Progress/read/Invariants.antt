@@ -10,7 +10,7 @@ invariant-bytes l = record {
   within : l.taken ≤ length l.bytes;
   readable : IsReadable (reading_of l.self);
   stands : StandsOn (reading_of l.fn.self) (reading_of l.self) (take l.taken l.bytes) None;
-  pending : pending_word l.self.word ≤ 2 * l.taken + pending_word l.fn.self.word;
+  pending : pending_word (reading_of l.self).word ≤ 2 * l.taken + pending_word (reading_of l.fn.self).word;
 }
 
 abbrev pub decreases-bytes : goal.decreases-bytes

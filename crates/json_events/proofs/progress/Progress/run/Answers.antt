@@ -2,7 +2,7 @@ use Rattle.std.proofs.Common.{[], take, None, subst}
 use Rattle.std.proofs.lemmas.Result.{IfOk-weaker, IfErr-weaker}
 use Rattle.json_events.specs.ReaderAnswers.{StandsOn}
 use Rattle.json_events.specs.ProgressSeen.{reading_of}
-use Rattle.json_events.proofs.StandLemmas.{on_then, fault_then}
+use Rattle.json_events.proofs.reading.StandLemmas.{on_then, fault_then}
 use Rattle.json_events.proofs.progress.Progress.run.Goals as goal
 
 pub returns-then-taken-eq0-clause-stands : goal.returns-then-taken-eq0-clause-stands

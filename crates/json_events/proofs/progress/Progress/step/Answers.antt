@@ -5,7 +5,7 @@ use Rattle.json_events.specs.declared.step.Step.TheVariants as step
 use Rattle.json_events.specs.ReaderState.{Reading}
 use Rattle.json_events.specs.ReaderAnswers.{StandsOn}
 use Rattle.json_events.specs.ProgressSeen.{reading_of}
-use Rattle.json_events.proofs.StandLemmas.{step_stands, step_readable, step_bytes, step_token, refused_stands, on_nothing}
+use Rattle.json_events.proofs.reading.StandLemmas.{step_stands, step_readable, step_bytes, step_token, refused_stands, on_nothing}
 use Rattle.json_events.proofs.progress.Progress.step.Goals as goal
 
 stepped : (old new : Reading) (b : ℕ) (s t : Step) → s ≡ t → StandsOn old new (step_bytes s b) (step_token s) → StandsOn old new (step_bytes t b) (step_token t)

@@ -1,6 +1,6 @@
 use Rattle.std.proofs.Common.{refl, sym, ap, ◌∙◌}
 use Rattle.json_events.specs.ReaderState.{ReaderState}
-use Rattle.json_events.proofs.CallLemmas.{stays_wrong}
+use Rattle.json_events.proofs.reading.CallLemmas.{stays_wrong}
 use Rattle.json_events.proofs.reader.Reader.feed.Goals as goal
 
 pub returns-in-Some-clause-stands : goal.returns-in-Some-clause-stands

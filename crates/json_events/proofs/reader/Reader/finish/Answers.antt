@@ -2,7 +2,7 @@ use Rattle.std.proofs.Common.{[], None, subst}
 use Rattle.json_events.specs.ReaderState.{ReaderState}
 use Rattle.json_events.specs.ReaderAnswers.{GoesOn}
 use Rattle.json_events.specs.ProgressSeen.{reading_of}
-use Rattle.json_events.proofs.CallLemmas.{end_wrong}
+use Rattle.json_events.proofs.reading.CallLemmas.{end_wrong}
 use Rattle.json_events.proofs.reader.Reader.finish.Goals as goal
 
 pub returns-in-Err-clause-stands : goal.returns-in-Err-clause-stands

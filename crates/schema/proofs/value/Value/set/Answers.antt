@@ -1,7 +1,7 @@
 use Rattle.std.proofs.Common.{◌∙◌, ap, subst, sym}
 use Rattle.std.proofs.lemmas.Result.{on_ok_weaker}
 use Rattle.schema.specs.Value.{slot_in, RiseFrom}
-use Rattle.schema.proofs.SlotLemmas.{slot_in-with_slot, RiseFrom-with_slot}
+use Rattle.schema.proofs.Theorems.{slot_in-with_slot, RiseFrom-with_slot}
 use Rattle.schema.proofs.value.Value.set.Goals as goal
 
 pub returns-clause-slots : goal.returns-clause-slots

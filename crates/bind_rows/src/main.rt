@@ -1,0 +1,35 @@
+//! Answers rows about `bind`, over files and streams in memory.
+//!
+//! A row has a label, the room of the output in bytes, the number of the write that fails or `-` for none, the
+//! bytes of the file `items.bin`, and the words of a command line as words of bytes. Its answer is the status,
+//! and what was written to the output and to the error stream, as they are debugged.
+//!
+//! The rows are made by scripts/sample_sets.py.
+#![tactic(auto)]
+
+mod running;
+
+use rows::{Answers, Row, answer_rows};
+use running::ran;
+use std::alloc::Global;
+use std::io::{self, BufReader, BufWriter, Write};
+
+/// What answers rows.
+#[derive(Drop)]
+struct Binds;
+
+impl Answers for Binds {
+    fn answer(&mut self, alloc: Global, row: &mut Row) -> io::Result<String> {
+        let room = row.word().parse().unwrap_or(0);
+        let failing = row.word();
+        ran(alloc, room, failing, row)
+    }
+}
+
+fn main(rt: HostRuntime) -> io::Result<()> {
+    let alloc = rt.alloc();
+    let mut out = BufWriter::new(alloc, io::writer(&rt))?;
+    let input = BufReader::new(alloc, rt.reader())?;
+    answer_rows(alloc, input, &mut out, &mut Binds)?;
+    out.flush()
+}

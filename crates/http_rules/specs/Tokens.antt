@@ -1,0 +1,21 @@
+-- Tokens (RFC 9110, section 5.6.2), as tests of bytes.
+use Rattle.std.specs.Prelude.{ℕ, ◌&&◌, Bool, List, length, nat_le, not}
+use Rattle.std.specs.List.{list_any}
+use Rattle.std.specs.Char.{is_ascii_uppercase}
+use Rattle.httparse.specs.Grammar as grammar
+
+-- tchar: a letter, a digit, or one of !#$%&'*+-.^_`|~
+abbrev pub is_token_byte : ℕ → Bool
+is_token_byte b = grammar.is_token_byte b
+
+-- token: one or more of its bytes
+abbrev pub is_token : List ℕ → Bool
+is_token bytes = grammar.is_token bytes
+
+-- a token of at most 32 bytes
+abbrev pub is_short_token : List ℕ → Bool
+is_short_token bytes = nat_le (length bytes) 32 && is_token bytes
+
+-- a token without capital letters
+abbrev pub is_lower_case_token : List ℕ → Bool
+is_lower_case_token bytes = is_token bytes && not (list_any is_ascii_uppercase bytes)

@@ -1,0 +1,7 @@
+pub mod StepLemmas
+pub mod CompletionLemmas
+pub mod LevelLemmas
+pub mod WithinLemmas
+pub mod CountLemmas
+pub mod PrefixLemmas
+pub mod EndedLemmas

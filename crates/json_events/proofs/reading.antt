@@ -1,0 +1,10 @@
+pub mod FeedLemmas
+pub mod StandLemmas
+pub mod HeldText
+pub mod HeldLemmas
+pub mod PutLemmas
+pub mod RunLemmas
+pub mod EndLemmas
+pub mod CallLemmas
+pub mod CallRuns
+pub mod FrontLemmas

@@ -1,0 +1,9 @@
+pub mod StringLemmas
+pub mod Utf8Lemmas
+pub mod Utf8Bytes
+pub mod CharacterRows
+pub mod StringWords
+pub mod StringRuns
+pub mod StringStates
+pub mod StringFronts
+pub mod LowHalves

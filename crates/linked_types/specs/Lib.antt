@@ -1,0 +1,4 @@
+pub mod IndexSteps
+pub mod LinkableTypes
+pub mod LinkedTypes
+pub mod RealNumbers

@@ -1,6 +1,0 @@
-use Rattle.std.proofs.Common.{◌≡◌, ◌++◌, drop}
-use Rattle.schema_link.specs.LinkedTypes.{linked_enums}
-use Rattle.schema_link.proofs.linked_types.linked_enums.Given as goal
-
-abbrev pub invariant-loop-index : goal.invariant-loop-index
-invariant-loop-index l = l.enums ++ linked_enums l.types (drop l.index-index l.indexes) ≡ linked_enums l.types l.indexes

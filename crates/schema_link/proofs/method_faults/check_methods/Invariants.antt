@@ -1,7 +1,0 @@
-use Rattle.std.proofs.Common.{◌≡◌, drop}
-use Rattle.std.specs.List.{flat_map}
-use Rattle.schema_link.specs.MethodFaults.{method_faults}
-use Rattle.schema_link.proofs.method_faults.check_methods.Given as goal
-
-abbrev pub invariant-loop-method : goal.invariant-loop-method
-invariant-loop-method l = flat_map (method_faults l.types) (drop l.method-index l.methods) ≡ flat_map (method_faults l.types) l.methods

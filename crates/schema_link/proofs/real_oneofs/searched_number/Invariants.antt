@@ -1,9 +1,0 @@
-use Rattle.std.proofs.Common.{◌≡◌, ◌≤◌}
-use Rattle.schema_link.specs.LinkedTypes.{real_before}
-use Rattle.schema_link.proofs.real_oneofs.searched_number.Given as goal
-
-abbrev pub invariant-loop-at : goal.invariant-loop-at
-invariant-loop-at l = record {
-  counted : l.count ≡ real_before l.fields l.at;
-  within : l.count ≤ l.at;
-}

@@ -1,8 +1,0 @@
--- The numbers of real oneofs, kept by the oneofs' indexes.
-use Rattle.std.specs.Prelude.{◌≡◌, ◌<◌, ℕ, List, length, Option, Some, slice_get}
-use Rattle.descriptor_set.specs.declared.file_set.FieldInfo.{FieldInfo}
-use Rattle.schema_link.specs.LinkedTypes.{real_number}
-
--- each item of a list is the number of the real oneof of its index
-abbrev pub AreRealNumbers : List FieldInfo → List (Option ℕ) → Type 0
-AreRealNumbers fs numbers = (i : ℕ) → i < length numbers → slice_get numbers i ≡ Some (real_number fs i)

@@ -1,0 +1,5 @@
+use Rattle.wire_records.specs.RecordSteps.{tells_first}
+use Rattle.wire_records.proofs.records.Records.next.Goals as goal
+
+pub returns : goal.returns
+returns c = tells_first c.args.self.now c.step.new.self c.step.result c.step.ensures

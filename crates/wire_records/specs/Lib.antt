@@ -1,0 +1,15 @@
+pub use Rattle.base.specs.Base128
+pub use Rattle.base.specs.Extends
+pub mod Outcome
+pub mod Varint
+pub mod WireRecord
+pub mod WholeRecords
+pub mod RecordBytes
+pub mod RecordFaults
+pub mod WireKindNames
+pub mod RecordViews
+pub mod RecordReader
+pub mod RecordSteps
+pub mod JoinedRecords
+pub mod WrittenRecords
+pub mod RangedRecords
