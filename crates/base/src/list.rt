@@ -87,6 +87,7 @@ impl<T: Drop> List<T> {
         Ok(())
     }
 
+    /// Puts an item in place of the one at an index, which is dropped. Takes no memory.
     pub fn set(&mut self, at: usize, item: T)
         requires { at < length self.old }
         ensures { self.new ≡ slice_set self.old at item }
@@ -94,6 +95,8 @@ impl<T: Drop> List<T> {
         self.items[at] = item;
     }
 
+    /// Puts an item before the one at an index, or behind the last. It is dropped where no memory is found
+    /// for it.
     pub fn insert(&mut self, at: usize, item: T) -> Result<(), NoMemory>
         requires { at ≤ length self.old }
         ensures ok { OnOk result (self.new ≡ insert self.old at item) }
@@ -103,6 +106,7 @@ impl<T: Drop> List<T> {
         Ok(())
     }
 
+    /// Takes out the item at an index. Those behind it move up. Takes no memory.
     pub fn remove(&mut self, at: usize) -> T
         requires { at < length self.old }
         ensures item { slice_get self.old at ≡ Some result }

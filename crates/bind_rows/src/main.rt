@@ -12,7 +12,7 @@ mod running;
 use rows::{Answers, Row, answer_rows};
 use running::ran;
 use std::alloc::Global;
-use std::io::{self, BufReader, BufWriter, Write};
+use std::io;
 
 /// What answers rows.
 #[derive(Drop)]
@@ -27,9 +27,5 @@ impl Answers for Binds {
 }
 
 fn main(rt: HostRuntime) -> io::Result<()> {
-    let alloc = rt.alloc();
-    let mut out = BufWriter::new(alloc, io::writer(&rt))?;
-    let input = BufReader::new(alloc, rt.reader())?;
-    answer_rows(alloc, input, &mut out, &mut Binds)?;
-    out.flush()
+    answer_rows(rt.alloc(), rt.reader(), io::writer(&rt), &mut Binds)
 }

@@ -1,10 +1,10 @@
 -- What a message declares, one level of it in view.
 use Rattle.std.proofs.Common.{◌≡◌, ◌++◌, ℕ, List, [], ◌∷◌, map, refl, ap, ◌∙◌, append_assoc}
 use Rattle.std.specs.List.{flat_map}
-use Rattle.descriptor_set.specs.declared.file_set.EnumInfo.{EnumInfo}
-use Rattle.descriptor_set.specs.declared.file_set.FieldInfo.{FieldInfo}
-use Rattle.descriptor_set.specs.declared.file_set.MessageInfo.{MessageInfo, out-MessageInfo}
-use Rattle.descriptor_set.specs.declared.file_set.MessageInfo.TheFolds.{fold_out-MessageInfo}
+use Rattle.descriptors.specs.declared.file_set.EnumInfo.{EnumInfo}
+use Rattle.descriptors.specs.declared.file_set.FieldInfo.{FieldInfo}
+use Rattle.descriptors.specs.declared.file_set.MessageInfo.{MessageInfo, out-MessageInfo}
+use Rattle.descriptors.specs.declared.file_set.MessageInfo.TheFolds.{fold_out-MessageInfo}
 use Rattle.descriptor_pool.specs.DeclaredNames.{Declaration, Message, declared_in, enums_in, extensions_in, in_scope, message_of, message_step, messages_in}
 
 through : (inner : List ℕ) (f : MessageInfo → List ℕ → List Declaration) (ms : List MessageInfo)

@@ -8,7 +8,7 @@ use Rattle.std.specs.Cmp.{nat_eq_equiv}
 use Rattle.std.specs.List.{AllByRecursion, IsDistinct, flat_map, list_any}
 use Rattle.std.specs.Option.{option_and_then, option_map_or}
 use Rattle.std.specs.Str.{bytes_eq}
-use Rattle.descriptor_set.specs.declared.file_set.FieldInfo.{FieldInfo}
+use Rattle.descriptors.specs.declared.file_set.FieldInfo.{FieldInfo}
 use Rattle.base.proofs.EachLemmas.{each_always, each_flat, each_joined, each_mapped}
 use Rattle.descriptor_pool.specs.DeclaredNames.{DeclaredEnum, DeclaredMessage}
 use Rattle.descriptor_pool.specs.DeclaredTypes.{SetTypes, bare, enum_named, first_from, message_named}
@@ -64,7 +64,8 @@ below_any n (x ∷ xs) a q h = pick (nat_eq q x) (eqb-true q x) h (below_any n x
 few : (n : ℕ) (xs : List ℕ) → IsDistinct nat_eq xs → AreBelow n xs → length xs ≤ n
 few n xs d a = length-le_from_distinct_below xs n d (below_any n xs a)
 
-nothing_distinct : IsDistinct nat_eq []
+-- nothing is distinct
+pub nothing_distinct : IsDistinct nat_eq []
 unfolding IsDistinct
 nothing_distinct = tt
 
@@ -74,6 +75,11 @@ index_distinct xs i d = pick (list_any (nat_eq i) xs) refl
     pick : (b : Bool) → list_any (nat_eq i) xs ≡ b → IsDistinct nat_eq (cond b xs (xs ++ i ∷ []))
     pick true e = d
     pick false e = IsDistinct-push nat_eq_equiv xs i d e
+
+-- each index is gathered once
+pub gathered_once : (xs is : List ℕ) → IsDistinct nat_eq xs → IsDistinct nat_eq (fold with_index xs is)
+gathered_once xs [] d = d
+gathered_once xs (i ∷ is) d = gathered_once (with_index xs i) is (index_distinct xs i d)
 
 index_below : (n : ℕ) (xs : List ℕ) (i : ℕ) → AreBelow n xs → i < n → AreBelow n (with_index xs i)
 index_below n xs i a l = pick (list_any (nat_eq i) xs)

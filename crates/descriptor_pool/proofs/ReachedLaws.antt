@@ -3,16 +3,15 @@ use Rattle.std.proofs.Common.{◌≡◌, ◌<◌, ◌++◌, ◌||◌, ℕ, Bool,
 use Rattle.std.proofs.lemmas.Bool.{eq-eqb, or_left, or_right}
 use Rattle.std.proofs.lemmas.List.Folds.{list_any-append}
 use Rattle.std.proofs.lemmas.List.Elements.{All-contains_itself, recursion_from_All}
-use Rattle.std.specs.List.{AllByRecursion, Contains, flat_map, list_any}
+use Rattle.std.specs.List.{AllByRecursion, Contains, IsDistinct, flat_map, list_any}
 use Rattle.std.specs.Option.{option_map_or}
-use Rattle.descriptor_set.specs.declared.file_set.FieldInfo.{FieldInfo}
-use Rattle.descriptor_pool.specs.DeclaredTypes.{SetTypes, enum_named}
+use Rattle.descriptor_pool.specs.DeclaredTypes.{SetTypes, enum_named, message_named}
 use Rattle.descriptor_pool.specs.FieldTypes.{field_enum, field_message, has_type, value_field}
 use Rattle.descriptor_pool.specs.ReachableTypes.{Joined, field_joins, fields_at, joins, message_enums, messages_of, method_roots, named_enum, next, queue, reachable, reached_enums, with_index}
-use Rattle.descriptor_pool.specs.ReachedClosure.{HaveEnums, HaveMessages, IsNamedBy, IsReachClosed}
+use Rattle.descriptor_pool.specs.ReachedClosure.{HaveEnums, HaveMessages, HaveRoots, IsNamedBy, IsReachClosed}
 use Rattle.descriptor_pool.specs.SetMethods.{BoundMethod}
 use Rattle.base.proofs.EachLemmas.{each_always, each_flat, each_image, each_joined, each_of_flat, each_part, each_weaker}
-use Rattle.descriptor_pool.proofs.QueueLaws.{chosen, enum_below, enums_whole, folded_index, indexes_below, queue_whole}
+use Rattle.descriptor_pool.proofs.QueueLaws.{chosen, enum_below, enums_whole, folded_index, gathered_once, indexes_below, nothing_distinct, queue_whole}
 
 -- ---- indexes that are gathered
 
@@ -61,15 +60,36 @@ module _ (types : SetTypes) (ms : List BoundMethod) where
   reached_is : messages_of (reachable types ms) ≡ fold with_index [] (messages_of (queue types ms (reachable types ms)))
   reached_is = ap messages_of (queue_whole types ms) ∙ folded_index [] (queue types ms (reachable types ms))
 
+  -- the messages of the queue are among those that are reached
+  queue_reached : AllByRecursion (λ (j : Joined). list_any (nat_eq j.message) (messages_of (reachable types ms)) ≡ true) (queue types ms (reachable types ms))
+  queue_reached =
+      let js = reachable types ms in
+      let P : ℕ → Type 0 = λ i. list_any (nat_eq i) (messages_of js) ≡ true in
+      let gathered : AllByRecursion P (messages_of (queue types ms js)) =
+      subst (λ is. AllByRecursion (λ k. list_any (nat_eq k) is ≡ true) (messages_of (queue types ms js))) (sym reached_is) (all_gathered [] (messages_of (queue types ms js))) in
+      each_image (λ (j : Joined). j.message) P (queue types ms js) gathered
+
+  -- the inputs and outputs of methods are reached
+  pub roots_reached : AllByRecursion (HaveRoots types (λ i. list_any (nat_eq i) (messages_of (reachable types ms)) ≡ true)) ms
+  roots_reached =
+      let js = reachable types ms in
+      let P : ℕ → Type 0 = λ i. list_any (nat_eq i) (messages_of js) ≡ true in
+      let before = (each_part (λ (j : Joined). P j.message) (flat_map (method_roots types) ms) (flat_map (next types) js) queue_reached).0 in
+      each_weaker (λ (m : BoundMethod). AllByRecursion (λ (k : Joined). P k.message) (method_roots types m)) (HaveRoots types P)
+      (λ (m : BoundMethod) a. let both = each_part (λ (k : Joined). P k.message) (joins m.path (message_named types m.input)) (joins m.path (message_named types m.output)) a in
+      (one_joined P m.path (message_named types m.input) both.0, one_joined P m.path (message_named types m.output) both.1))
+      ms (each_of_flat (method_roots types) (λ (k : Joined). P k.message) ms before)
+
+  -- each message is reached once
+  pub messages_once : IsDistinct nat_eq (messages_of (reachable types ms))
+  messages_once = subst (IsDistinct nat_eq) (sym reached_is) (gathered_once [] (messages_of (queue types ms (reachable types ms))) nothing_distinct)
+
   -- the messages that fields of messages reached name are reached
   pub messages_closed : AllByRecursion (λ (j : Joined). HaveMessages types (λ i. list_any (nat_eq i) (messages_of (reachable types ms)) ≡ true) (fields_at types j.message)) (reachable types ms)
   messages_closed =
       let js = reachable types ms in
       let P : ℕ → Type 0 = λ i. list_any (nat_eq i) (messages_of js) ≡ true in
-      let gathered : AllByRecursion P (messages_of (queue types ms js)) =
-      subst (λ is. AllByRecursion (λ k. list_any (nat_eq k) is ≡ true) (messages_of (queue types ms js))) (sym reached_is) (all_gathered [] (messages_of (queue types ms js))) in
-      let queued = each_image (λ (j : Joined). j.message) P (queue types ms js) gathered in
-      let after = (each_part (λ (j : Joined). P j.message) (flat_map (method_roots types) ms) (flat_map (next types) js) queued).1 in
+      let after = (each_part (λ (j : Joined). P j.message) (flat_map (method_roots types) ms) (flat_map (next types) js) queue_reached).1 in
       each_weaker (λ (j : Joined). AllByRecursion (λ (k : Joined). P k.message) (next types j)) (λ (j : Joined). HaveMessages types P (fields_at types j.message))
       (λ (j : Joined) a. each_weaker (λ f. AllByRecursion (λ (k : Joined). P k.message) (field_joins types j.path f))
       (λ f. (i : ℕ) → field_message types (value_field types f) ≡ Some i → P i)
@@ -144,12 +164,19 @@ enums_named types js =
     (fields_at types j.message) (each_itself (fields_at types j.message)))
     js (each_itself js))
 
+-- each enum is reached once
+pub enums_once : (types : SetTypes) (js : List Joined) → IsDistinct nat_eq (reached_enums types js)
+enums_once types js = subst (IsDistinct nat_eq) (sym (enums_whole types js)) (gathered_once [] (flat_map (message_enums types) js) nothing_distinct)
+
 -- what methods reach is closed
 pub reach_closed : (types : SetTypes) (ms : List BoundMethod) → IsReachClosed types ms
 reach_closed types ms = record {
+  roots = roots_reached types ms;
   messages = messages_closed types ms;
   enums = enums_closed types (reachable types ms);
   messages_below = messages_below types ms;
   enums_below = enums_below types (reachable types ms);
   enums_named = enums_named types (reachable types ms);
+  messages_once = messages_once types ms;
+  enums_once = enums_once types (reachable types ms);
 }

@@ -1,6 +1,6 @@
 -- What contracts see of a declaration.
 use Rattle.std.specs.Prelude.{ℕ, List}
-use Rattle.descriptor_set.specs.declared.file_set.MessageInfo.{out-MessageInfo}
+use Rattle.descriptors.specs.declared.file_set.MessageInfo.{out-MessageInfo}
 use Rattle.descriptor_pool.specs.DeclaredNames.{Declaration, File, Message, Enum, Service, Extension, message_of}
 use Rattle.descriptor_pool.specs.declared.declared_names.Declared.{Declared}
 use Rattle.descriptor_pool.specs.declared.declared_names.Declared.TheVariants.{File as FileOf, Message as MessageOf, Enum as EnumOf, Service as ServiceOf, Extension as ExtensionOf}

@@ -2,15 +2,15 @@
 -- package and of the messages around it, joined by dots.
 use Rattle.std.specs.Prelude.{◌++◌, ℕ, Bool, true, false, List, [], ◌∷◌, map}
 use Rattle.std.specs.List.{flat_map}
-use Rattle.descriptor_set.specs.declared.file_set.EnumInfo.{EnumInfo}
-use Rattle.descriptor_set.specs.declared.file_set.FieldInfo.{FieldInfo}
-use Rattle.descriptor_set.specs.declared.file_set.FileInfo.{FileInfo}
-use Rattle.descriptor_set.specs.declared.file_set.FileSet.{FileSet}
-use Rattle.descriptor_set.specs.declared.file_set.MessageInfo.{MessageInfo}
-use Rattle.descriptor_set.specs.declared.file_set.MessageInfo.TheOpen.{MessageInfo-F}
-use Rattle.descriptor_set.specs.declared.file_set.MessageInfo.TheFolds.{fold-MessageInfo}
-use Rattle.descriptor_set.specs.declared.file_set.ServiceInfo.{ServiceInfo}
-use Rattle.schema.specs.declared.types.enums.EnumValue.{EnumValue}
+use Rattle.descriptors.specs.declared.file_set.EnumInfo.{EnumInfo}
+use Rattle.descriptors.specs.declared.file_set.FieldInfo.{FieldInfo}
+use Rattle.descriptors.specs.declared.file_set.FileInfo.{FileInfo}
+use Rattle.descriptors.specs.declared.file_set.FileSet.{FileSet}
+use Rattle.descriptors.specs.declared.file_set.MessageInfo.{MessageInfo}
+use Rattle.descriptors.specs.declared.file_set.MessageInfo.TheOpen.{MessageInfo-F}
+use Rattle.descriptors.specs.declared.file_set.MessageInfo.TheFolds.{fold-MessageInfo}
+use Rattle.descriptors.specs.declared.file_set.ServiceInfo.{ServiceInfo}
+use Rattle.message_types.specs.declared.enums.EnumValue.{EnumValue}
 
 -- a message, but for what is nested in it: its full name, its file's syntax, its fields, the names of its
 -- oneofs, and two of its options

@@ -2,7 +2,7 @@
 -- 2 required, 3 repeated; types are 1 double to 18 sint64.
 use Rattle.std.specs.Prelude.{ℕ, ℤ, pos, Bool, List, [], ◌∷◌, Option, Some, None, if◌then◌else◌, option_and_then, slice_get, unwrap_or}
 use Rattle.std.specs.Ordering.{int_eq}
-use Rattle.descriptor_set.specs.declared.file_set.FieldInfo.{FieldInfo}
+use Rattle.descriptors.specs.declared.file_set.FieldInfo.{FieldInfo}
 use Rattle.descriptor_pool.specs.DeclaredNames.{DeclaredMessage}
 use Rattle.descriptor_pool.specs.DeclaredTypes.{SetTypes, message_named, enum_named}
 

@@ -4,7 +4,7 @@
 use Rattle.std.specs.Prelude.{◌++◌, ℕ, zero, suc, Bool, List, [], ◌∷◌, length, map, take, fold, nat_eq, Option, Some, None, if◌then◌else◌, slice_get}
 use Rattle.std.specs.List.{flat_map, list_any}
 use Rattle.std.specs.Option.{option_map_or}
-use Rattle.descriptor_set.specs.declared.file_set.FieldInfo.{FieldInfo}
+use Rattle.descriptors.specs.declared.file_set.FieldInfo.{FieldInfo}
 use Rattle.descriptor_pool.specs.DeclaredNames.{DeclaredMessage}
 use Rattle.descriptor_pool.specs.DeclaredTypes.{SetTypes, message_named}
 use Rattle.descriptor_pool.specs.FieldTypes.{field_enum, field_message, value_field}

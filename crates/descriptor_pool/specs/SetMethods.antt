@@ -1,13 +1,13 @@
 -- The methods of a set that have an annotation, and their rules (google/api/http.proto).
 use Rattle.std.specs.Prelude.{◌++◌, ℕ, Bool, List, [], ◌∷◌, codes, Option, Some, None}
 use Rattle.std.specs.List.{flat_map}
-use Rattle.descriptor_set.specs.declared.file_set.FileInfo.{FileInfo}
-use Rattle.descriptor_set.specs.declared.file_set.FileSet.{FileSet}
-use Rattle.descriptor_set.specs.declared.file_set.HttpInfo.{HttpInfo, out-HttpInfo}
-use Rattle.descriptor_set.specs.declared.file_set.PatternInfo.{PatternInfo}
-use Rattle.descriptor_set.specs.declared.file_set.PatternInfo.TheVariants.{Get, Put, Post, Delete, Patch, Custom}
-use Rattle.descriptor_set.specs.declared.file_set.RpcInfo.{RpcInfo}
-use Rattle.descriptor_set.specs.declared.file_set.ServiceInfo.{ServiceInfo}
+use Rattle.descriptors.specs.declared.file_set.FileInfo.{FileInfo}
+use Rattle.descriptors.specs.declared.file_set.FileSet.{FileSet}
+use Rattle.descriptors.specs.declared.file_set.HttpInfo.{HttpInfo, out-HttpInfo}
+use Rattle.descriptors.specs.declared.file_set.PatternInfo.{PatternInfo}
+use Rattle.descriptors.specs.declared.file_set.PatternInfo.TheVariants.{Get, Put, Post, Delete, Patch, Custom}
+use Rattle.descriptors.specs.declared.file_set.RpcInfo.{RpcInfo}
+use Rattle.descriptors.specs.declared.file_set.ServiceInfo.{ServiceInfo}
 use Rattle.descriptor_pool.specs.DeclaredNames.{in_scope}
 
 -- a method with an annotation: its gRPC path, the type names of its input and output, its rule, and which

@@ -4,9 +4,9 @@ use Rattle.std.specs.Prelude.{◌&&◌, ◌==◌, ℕ, pos, Bool, true, false, L
 use Rattle.std.specs.List.{list_any}
 use Rattle.std.specs.Ordering.{int_eq}
 use Rattle.std.specs.Str.{bytes_eq}
-use Rattle.descriptor_set.specs.declared.file_set.FieldInfo.{FieldInfo}
-use Rattle.schema.specs.declared.types.messages.Known.{Known}
-use Rattle.schema.specs.declared.types.messages.Known.TheVariants.{Plain, Timestamp, Duration, FieldMask, Wrapper}
+use Rattle.descriptors.specs.declared.file_set.FieldInfo.{FieldInfo}
+use Rattle.message_types.specs.declared.messages.Known.{Known}
+use Rattle.message_types.specs.declared.messages.Known.TheVariants.{Plain, Timestamp, Duration, FieldMask, Wrapper}
 use Rattle.descriptor_pool.specs.FieldTypes.{has_type, is_repeated}
 
 -- the type number of what a wrapper wraps, by the wrapper's full name

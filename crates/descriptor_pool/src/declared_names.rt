@@ -4,7 +4,7 @@ ghost use Rattle.std.specs.List.{flat_map};
 ghost use Rattle.descriptor_pool.specs.DeclaredNames.{declarations, declared_in, enums_in, extensions_in, file_declarations, in_scope, messages_in, services_in, is_type, name_of};
 
 use base::{NoMemory, Text};
-use descriptor_set::{EnumInfo, FieldInfo, FileInfo, FileSet, MessageInfo, ServiceInfo};
+use descriptors::{EnumInfo, FieldInfo, FileInfo, FileSet, MessageInfo, ServiceInfo};
 use std::alloc::Global;
 use std::marker::Model;
 

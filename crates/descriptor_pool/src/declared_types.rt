@@ -12,8 +12,8 @@ ghost use Rattle.descriptor_pool.specs.TextSets.{has};
 use crate::declared_names::{Declaration, Declared};
 use crate::field_types::field_numbered;
 use base::NoMemory;
-use descriptor_set::descriptor_numbers::ENTRY_VALUE;
-use descriptor_set::{EnumInfo, FieldInfo, FileInfo, MessageInfo};
+use descriptors::descriptor_numbers::ENTRY_VALUE;
+use descriptors::{EnumInfo, FieldInfo, FileInfo, MessageInfo};
 use std::alloc::Global;
 use std::collections::{BTreeMap, BTreeSet};
 use std::marker::Model;
@@ -33,7 +33,7 @@ pub struct DeclaredMessage<'a> {
 impl<'a> Model for DeclaredMessage<'a> {
     ghost use Rattle.std.specs.Prelude.{◌≡◌, pos};
     ghost use Rattle.std.specs.Option.{option_copied};
-    ghost use Rattle.descriptor_set.specs.declared.file_set.MessageInfo.{out-MessageInfo};
+    ghost use Rattle.descriptors.specs.declared.file_set.MessageInfo.{out-MessageInfo};
     ghost use Rattle.descriptor_pool.specs.DeclaredNames.{DeclaredMessage as Seen, message_of};
     ghost use Rattle.descriptor_pool.specs.FieldTypes.{field_numbered};
 

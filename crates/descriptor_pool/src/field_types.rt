@@ -4,8 +4,8 @@ ghost use Rattle.std.specs.Option.{option_copied};
 ghost use Rattle.descriptor_pool.specs.FieldTypes.{entry_value, field_enum, field_message, field_numbered, has_type, is_repeated, map_entry, message_of_field, value_field};
 
 use crate::declared_types::{DeclaredMessage, SetTypes};
-use descriptor_set::FieldInfo;
-use descriptor_set::descriptor_numbers::{LABEL_REPEATED, TYPE_ENUM, TYPE_MESSAGE};
+use descriptors::FieldInfo;
+use descriptors::descriptor_numbers::{LABEL_REPEATED, TYPE_ENUM, TYPE_MESSAGE};
 
 /// True for a repeated field.
 pub fn is_repeated(field: &FieldInfo) -> bool

@@ -3,7 +3,7 @@ ghost use Rattle.std.specs.Prelude.{◌≡◌, map, IfOk};
 ghost use Rattle.descriptor_pool.specs.JsonFieldNames.{camel_name, cased, json_of};
 
 use base::{NoMemory, Text};
-use descriptor_set::FieldInfo;
+use descriptors::FieldInfo;
 use std::alloc::Global;
 
 /// The character, in upper case where it follows an underscore.

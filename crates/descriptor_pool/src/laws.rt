@@ -14,7 +14,8 @@ pub fn what_is_reached_is_whole()
     ensures enums { (types : SetTypes) (js : List Joined) → reached_enums types js ≡ fold with_index [] (flat_map (message_enums types) js) }
 {}
 
-/// The messages and enums that the fields of what is reached name are reached too, and of the set.
+/// The inputs and outputs of methods are reached, the messages and enums that the fields of what is
+/// reached name are reached too, and of the set, and each is reached once.
 pub fn what_is_reached_is_closed()
     ensures { (types : SetTypes) (ms : List BoundMethod) → IsReachClosed types ms }
 {}

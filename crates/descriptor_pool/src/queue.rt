@@ -7,7 +7,7 @@ ghost use Rattle.descriptor_pool.specs.ReachableTypes.{fields_join, joins, metho
 use crate::declared_types::SetTypes;
 use crate::set_methods::BoundMethod;
 use base::NoMemory;
-use descriptor_set::FieldInfo;
+use descriptors::FieldInfo;
 use std::alloc::Global;
 use std::collections::BTreeSet;
 use std::marker::Model;

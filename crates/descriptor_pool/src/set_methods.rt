@@ -1,11 +1,11 @@
 //! The methods of a set that have an annotation, and their rules (google/api/http.proto).
 ghost use Rattle.std.specs.Prelude.{◌≡◌, ◌++◌, map, IfOk, OnOk};
-ghost use Rattle.descriptor_set.specs.declared.file_set.HttpInfo.{out-HttpInfo};
+ghost use Rattle.descriptors.specs.declared.file_set.HttpInfo.{out-HttpInfo};
 ghost use Rattle.descriptor_pool.specs.SetMethods.{all_rules, bound_methods, file_methods, grpc_path, http_method, pattern_method, rule_methods, service_methods, with_rule};
 
 use crate::declared_names::put_name;
 use base::{NoMemory, Text};
-use descriptor_set::{FileInfo, FileSet, HttpInfo, PatternInfo, RpcInfo, ServiceInfo};
+use descriptors::{FileInfo, FileSet, HttpInfo, PatternInfo, RpcInfo, ServiceInfo};
 use std::alloc::Global;
 use std::marker::Model;
 
@@ -21,7 +21,7 @@ pub struct BoundMethod<'a> {
 }
 
 impl<'a> Model for BoundMethod<'a> {
-    ghost use Rattle.descriptor_set.specs.contracts.file_set.HttpInfo.{the_row};
+    ghost use Rattle.descriptors.specs.contracts.file_set.HttpInfo.{the_row};
     ghost use Rattle.std.specs.Coded.{codes};
     ghost use Rattle.descriptor_pool.specs.SetMethods.{BoundMethod as Seen};
 

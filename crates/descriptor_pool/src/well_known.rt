@@ -4,8 +4,8 @@ ghost use Rattle.std.specs.List.{list_any};
 ghost use Rattle.descriptor_pool.specs.WellKnownTypes.{are_published, are_seconds_and_nanos, has_repetition, is_published, is_value, known_of, wrapped_type};
 
 use crate::field_types::is_repeated;
-use descriptor_set::FieldInfo;
-use schema::Known;
+use descriptors::FieldInfo;
+use message_types::Known;
 
 /// The type number of what a wrapper wraps, by the wrapper's full name.
 pub(crate) fn wrapped_type(name: &str) -> Option<u32>

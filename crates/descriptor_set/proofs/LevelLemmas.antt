@@ -1,8 +1,8 @@
 -- One level of the definitions by level.
 use Rattle.std.proofs.Common.{◌≡◌, ◌-◌, ℕ, zero, suc, arith, refl}
 use Rattle.descriptor_set.specs.DescriptorFields.{message_by, message_info, no_message, no_rule, rule_by, rule_info}
-use Rattle.descriptor_set.specs.declared.file_set.HttpInfo.{HttpInfo}
-use Rattle.descriptor_set.specs.declared.file_set.MessageInfo.{MessageInfo}
+use Rattle.descriptors.specs.declared.file_set.HttpInfo.{HttpInfo}
+use Rattle.descriptors.specs.declared.file_set.MessageInfo.{MessageInfo}
 use Rattle.schema.specs.declared.value.Value.{Value}
 
 -- with no level left, nothing is declared

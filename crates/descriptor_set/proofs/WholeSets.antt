@@ -5,15 +5,15 @@ use Rattle.std.proofs.lemmas.Bool.Decides.{nat_tests}
 use Rattle.std.proofs.lemmas.Int.{ints}
 use Rattle.std.specs.List.{AllByRecursion}
 use Rattle.schema.specs.Layers.{ItemLayer, SlotLayer}
-use Rattle.schema.specs.Types.{field_in, fields_of}
+use Rattle.message_types.specs.Types.{field_in, fields_of}
 use Rattle.schema.specs.Validity.{AreFieldSlots, Inner, IsFieldSlot, IsInt32, IsItem, IsSlot, IsValid, valid_within}
 use Rattle.schema.specs.Value.{slot_at, slot_in, slots_of}
-use Rattle.schema.specs.declared.types.fields.Field.{Field}
-use Rattle.schema.specs.declared.types.fields.Kind.{Kind}
-use Rattle.schema.specs.declared.types.fields.Kind.TheVariants.{Message as MessageOf}
-use Rattle.schema.specs.declared.types.fields.Shape.{Shape}
-use Rattle.schema.specs.declared.types.fields.Shape.TheVariants.{Single, Many as ManyOf}
-use Rattle.schema.specs.declared.types.messages.TypeId.{TypeId}
+use Rattle.message_types.specs.declared.fields.Field.{Field}
+use Rattle.message_types.specs.declared.fields.Kind.{Kind}
+use Rattle.message_types.specs.declared.fields.Kind.TheVariants.{Message as MessageOf}
+use Rattle.message_types.specs.declared.fields.Shape.{Shape}
+use Rattle.message_types.specs.declared.fields.Shape.TheVariants.{Single, Many as ManyOf}
+use Rattle.message_types.specs.declared.messages.TypeId.{TypeId}
 use Rattle.schema.specs.declared.value.Item.TheOpen.{Number, Truth, Text, Bytes, Message, One, Many, Pairs}
 use Rattle.schema.specs.declared.value.Item.{Item, out-Item}
 use Rattle.schema.specs.declared.value.Slot.{Slot, out-Slot}
@@ -46,7 +46,8 @@ slot_fits inner fields (e ∷ es) n s h k = pick (e.0 == n) (eqb-true e.0 n) k (
     pick false p k r = r k
 
 module _ (inner : Inner) (fields : List Field) (w : Value) (slots : AreFieldSlots inner fields (slots_of w)) where
-  field_slot : (n : ℕ) (f : Field) (s : Slot) → field_in fields n ≡ Some f → slot_at w n ≡ Some s → IsSlot inner f f.shape (out-Slot s)
+  -- a slot fits the field of its number
+  pub field_slot : (n : ℕ) (f : Field) (s : Slot) → field_in fields n ≡ Some f → slot_at w n ≡ Some s → IsSlot inner f f.shape (out-Slot s)
   field_slot n f s known k = subst (λ o. IsFieldSlot inner o s) known (slot_fits inner fields (slots_of w) n s slots k)
 
   message_of : (id : TypeId) (i : Item) (v : Value) → IsItem inner (MessageOf id) (out-Item i) → message_in (out-Item i) ≡ Some v → inner.message id v
@@ -60,7 +61,7 @@ module _ (inner : Inner) (fields : List Field) (w : Value) (slots : AreFieldSlot
       pick (Message u) h e = let same : u ≡ v = cc (e) in subst (inner.message id) same h
 
   -- the messages of a repeated field are valid one level further in
-  all_messages : (n : ℕ) (f : Field) (id : TypeId) → field_in fields n ≡ Some f → f.shape ≡ ManyOf → f.kind ≡ MessageOf id → AllByRecursion (inner.message id) (messages_at w n)
+  pub all_messages : (n : ℕ) (f : Field) (id : TypeId) → field_in fields n ≡ Some f → f.shape ≡ ManyOf → f.kind ≡ MessageOf id → AllByRecursion (inner.message id) (messages_at w n)
   all_messages n f id known shape kind = at (slot_at w n) refl
     where
       each : (x : SlotLayer) → IsSlot inner f ManyOf x → AllByRecursion (inner.message id) (messages_in (items_in x))
@@ -171,7 +172,8 @@ levels_kept exact valid bytes v b h = set_whole v (valid descriptor_types (type_
 
 -- ---- numbers
 
-int32_kept : (z : ℤ) → IsInt32 z → as_int32 z ≡ Some z
+-- a number of 32 bits is read
+pub int32_kept : (z : ℤ) → IsInt32 z → as_int32 z ≡ Some z
 int32_kept (pos n) h = let low : n < 2 ^ 31 = omega (arith, ints, h.1) in let test : nat_lt n (2 ^ 31) ≡ true = grind (arith, nat_tests, low) in rw test refl
 int32_kept (negsuc n) h = let low : n < 2 ^ 31 = omega (arith, ints, h.0) in let test : nat_lt n (2 ^ 31) ≡ true = grind (arith, nat_tests, low) in rw test refl
 

@@ -2,19 +2,19 @@
 -- fields hold, by its value. Messages and rules nest in at most 100 levels, since decoding reads no deeper ones.
 use Rattle.std.specs.Prelude.{ℕ, zero, suc, Bool, false, List, [], Option, None, map, option_map, option_and_then, unwrap_or}
 use Rattle.std.specs.Option.{option_or}
-use Rattle.schema.specs.declared.types.enums.EnumValue.{EnumValue}
+use Rattle.message_types.specs.declared.enums.EnumValue.{EnumValue}
 use Rattle.schema.specs.declared.value.Value.{Value}
 use Rattle.descriptor_set.specs.FieldContents.{text_at, text_or_empty, number_at, number_or_zero, truth_at, truth_or_false, message_at, messages_at}
-use Rattle.descriptor_set.specs.declared.file_set.EnumInfo.{EnumInfo}
-use Rattle.descriptor_set.specs.declared.file_set.FieldInfo.{FieldInfo}
-use Rattle.descriptor_set.specs.declared.file_set.FileInfo.{FileInfo}
-use Rattle.descriptor_set.specs.declared.file_set.FileSet.{FileSet}
-use Rattle.descriptor_set.specs.declared.file_set.HttpInfo.{HttpInfo, roll-HttpInfo}
-use Rattle.descriptor_set.specs.declared.file_set.MessageInfo.{MessageInfo, roll-MessageInfo}
-use Rattle.descriptor_set.specs.declared.file_set.PatternInfo.{PatternInfo}
-use Rattle.descriptor_set.specs.declared.file_set.PatternInfo.TheVariants.{Get, Put, Post, Delete, Patch, Custom}
-use Rattle.descriptor_set.specs.declared.file_set.RpcInfo.{RpcInfo}
-use Rattle.descriptor_set.specs.declared.file_set.ServiceInfo.{ServiceInfo}
+use Rattle.descriptors.specs.declared.file_set.EnumInfo.{EnumInfo}
+use Rattle.descriptors.specs.declared.file_set.FieldInfo.{FieldInfo}
+use Rattle.descriptors.specs.declared.file_set.FileInfo.{FileInfo}
+use Rattle.descriptors.specs.declared.file_set.FileSet.{FileSet}
+use Rattle.descriptors.specs.declared.file_set.HttpInfo.{HttpInfo, roll-HttpInfo}
+use Rattle.descriptors.specs.declared.file_set.MessageInfo.{MessageInfo, roll-MessageInfo}
+use Rattle.descriptors.specs.declared.file_set.PatternInfo.{PatternInfo}
+use Rattle.descriptors.specs.declared.file_set.PatternInfo.TheVariants.{Get, Put, Post, Delete, Patch, Custom}
+use Rattle.descriptors.specs.declared.file_set.RpcInfo.{RpcInfo}
+use Rattle.descriptors.specs.declared.file_set.ServiceInfo.{ServiceInfo}
 
 -- OneofDescriptorProto: name 1
 abbrev pub oneof_name : Value → List ℕ

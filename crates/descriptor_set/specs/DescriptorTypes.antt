@@ -5,18 +5,18 @@ use Rattle.descriptor_set.specs.declared.described.Described.{Described}
 use Rattle.descriptor_set.specs.declared.described.Described.TheVariants as in_
 use Rattle.descriptor_set.specs.declared.described.Holds.{Holds}
 use Rattle.descriptor_set.specs.declared.described.Holds.TheVariants.{Text, Number, Truth, Path, CustomPath, Message, Messages}
-use Rattle.schema.specs.declared.types.fields.Field.{Field}
-use Rattle.schema.specs.declared.types.fields.Kind.{Kind}
-use Rattle.schema.specs.declared.types.fields.Kind.TheVariants.{One as OneOf, Message as MessageOf}
-use Rattle.schema.specs.declared.types.fields.Presence.{Presence}
-use Rattle.schema.specs.declared.types.fields.Presence.TheVariants.{Implicit, Explicit}
-use Rattle.schema.specs.declared.types.fields.Scalar.TheVariants.{Int32, Bool as BoolOf, Text as TextOf}
-use Rattle.schema.specs.declared.types.fields.Shape.{Shape}
-use Rattle.schema.specs.declared.types.fields.Shape.TheVariants.{Single, Member, Many}
-use Rattle.schema.specs.declared.types.messages.Known.TheVariants.{Plain}
-use Rattle.schema.specs.declared.types.messages.MessageType.{MessageType}
-use Rattle.schema.specs.declared.types.messages.TypeId.{TypeId}
-use Rattle.schema.specs.declared.types.messages.Types.{Types}
+use Rattle.message_types.specs.declared.fields.Field.{Field}
+use Rattle.message_types.specs.declared.fields.Kind.{Kind}
+use Rattle.message_types.specs.declared.fields.Kind.TheVariants.{One as OneOf, Message as MessageOf}
+use Rattle.message_types.specs.declared.fields.Presence.{Presence}
+use Rattle.message_types.specs.declared.fields.Presence.TheVariants.{Implicit, Explicit}
+use Rattle.message_types.specs.declared.fields.Scalar.TheVariants.{Int32, Bool as BoolOf, Text as TextOf}
+use Rattle.message_types.specs.declared.fields.Shape.{Shape}
+use Rattle.message_types.specs.declared.fields.Shape.TheVariants.{Single, Member, Many}
+use Rattle.message_types.specs.declared.messages.Known.TheVariants.{Plain}
+use Rattle.message_types.specs.declared.messages.MessageType.{MessageType}
+use Rattle.message_types.specs.declared.messages.TypeId.{TypeId}
+use Rattle.message_types.specs.declared.messages.Types.{Types}
 
 -- the fields of a message that are read: each number with what it holds
 abbrev pub listed_fields : Described → List (ℕ × Holds)

@@ -6,5 +6,8 @@ pub mod DescriptorTypes
 pub mod FieldContents
 pub mod DescriptorFields
 pub mod SetReading
+pub mod SetFaultTexts
 pub mod SetExamples
+pub mod ItemSet
 pub mod NothingLost
+pub mod ListedContents

@@ -2,8 +2,8 @@
 use Rattle.std.specs.Prelude.{◌≡◌, pos, [], ◌∷◌, true, codes, Ok, Err}
 use Rattle.descriptor_set.specs.SetReading.{set_reading}
 use Rattle.descriptor_set.specs.declared.fault.SetFault.TheVariants.{Wire, NotUtf8}
-use Rattle.descriptor_set.specs.declared.file_set.FileInfo.{FileInfo}
-use Rattle.descriptor_set.specs.declared.file_set.MessageInfo.{MessageInfo, roll-MessageInfo}
+use Rattle.descriptors.specs.declared.file_set.FileInfo.{FileInfo}
+use Rattle.descriptors.specs.declared.file_set.MessageInfo.{MessageInfo, roll-MessageInfo}
 use Rattle.wire_records.specs.declared.fault.WireKind.TheVariants.{Short, BadTag}
 
 -- a file that declares nothing

@@ -8,7 +8,7 @@ use Rattle.descriptor_set.specs.DescriptorTypes.{descriptor_types, type_of}
 use Rattle.descriptor_set.specs.declared.described.Described.TheVariants.{Set}
 use Rattle.descriptor_set.specs.declared.fault.SetFault.{SetFault}
 use Rattle.descriptor_set.specs.declared.fault.SetFault.TheVariants as found
-use Rattle.descriptor_set.specs.declared.file_set.FileSet.{FileSet}
+use Rattle.descriptors.specs.declared.file_set.FileSet.{FileSet}
 
 -- the first fault of the bytes, as a reader of sets tells it
 abbrev pub set_fault : Fault → SetFault

@@ -2,7 +2,7 @@
 ghost use Rattle.std.specs.Prelude.{◌≡◌};
 ghost use Rattle.descriptor_set.specs.DescriptorTypes.{listed_fields as listed, type_of};
 
-use crate::descriptor_numbers::HTTP_RULE;
+use descriptors::descriptor_numbers::HTTP_RULE;
 use schema::TypeId;
 
 /// A message of descriptor.proto or google/api/http.proto.

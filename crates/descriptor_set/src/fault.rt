@@ -29,6 +29,11 @@ impl From<NoMemory> for SetFault {
 }
 
 impl fmt::Display for SetFault {
+    ghost use Rattle.std.specs.Prelude.{Some};
+    ghost use Rattle.descriptor_set.specs.SetFaultTexts.{set_fault_text};
+
+    ghost output = { λ fault. Some (set_fault_text fault) };
+
     fn fmt<W: fmt::Write>(&self, f: &mut fmt::Formatter<W>) -> fmt::Result {
         match self {
             SetFault::Wire(fault) => write!(f, "{fault}"),

@@ -7,21 +7,19 @@
 #![tactic(auto)]
 
 mod described;
-pub mod descriptor_numbers;
 mod descriptor_types;
 pub mod examples;
 mod fault;
 mod field_contents;
-mod file_set;
 pub mod laws;
 mod message_reader;
 mod rule_reader;
 mod service_reader;
 mod set_reader;
 
-pub use fault::SetFault;
-pub use file_set::{
+pub use descriptors::{
     EnumInfo, FieldInfo, FileInfo, FileSet, HttpInfo, MessageInfo, PatternInfo, RpcInfo,
     ServiceInfo,
 };
+pub use fault::SetFault;
 pub use set_reader::{MAX_SET_BYTES, read_set};

@@ -6,8 +6,8 @@ ghost use Rattle.descriptor_set.specs.FieldContents.{truth_at, message_at};
 use crate::field_contents::{
     int, int_or_zero, is_set, message, messages, text, text_or_empty, truth,
 };
-use crate::file_set::{EnumInfo, FieldInfo, MessageInfo};
 use base::{List, NoMemory, Text};
+use descriptors::{EnumInfo, FieldInfo, MessageInfo};
 use schema::{EnumValue, Value};
 use std::alloc::Global;
 

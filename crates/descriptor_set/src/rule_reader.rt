@@ -4,10 +4,10 @@ ghost use Rattle.descriptor_set.specs.DescriptorFields.{custom_pattern, no_rule 
 ghost use Rattle.std.specs.Option.{option_copied};
 ghost use Rattle.descriptor_set.specs.FieldContents.{message_at};
 
-use crate::descriptor_numbers::HTTP_RULE;
 use crate::field_contents::{message, messages, text, text_or_empty};
-use crate::file_set::{HttpInfo, PatternInfo};
 use base::{List, NoMemory, Text};
+use descriptors::descriptor_numbers::HTTP_RULE;
+use descriptors::{HttpInfo, PatternInfo};
 use schema::{MAX_LEVELS, Value};
 use std::alloc::Global;
 

@@ -3,9 +3,9 @@ ghost use Rattle.std.specs.Prelude.{◌≡◌, map, IfOk};
 ghost use Rattle.descriptor_set.specs.DescriptorFields.{method_info, service_info};
 
 use crate::field_contents::{is_set, messages, text_or_empty};
-use crate::file_set::{RpcInfo, ServiceInfo};
 use crate::rule_reader::read_http;
 use base::{List, NoMemory};
+use descriptors::{RpcInfo, ServiceInfo};
 use schema::Value;
 use std::alloc::Global;
 

@@ -77,6 +77,11 @@ initial_small initial size (Grant n) i h = i
 initial_small initial size (Resize old new) i h = h.1
 initial_small initial size (Spend n) i h = i
 
+-- a call that may follow has what it needs, and leaves the window in reach
+pub call_stays : (initial : ℕ) (size : ℤ) (call : WindowCall) → initial ≤ max_window_size → IsInReach initial size
+    → MayFollow initial size call → MayChange size call × IsInReach (initial_after initial call) (window_after size call)
+call_stays initial size call i s h = (may_change initial size call i s h, follow_reach initial size call i s h)
+
 -- calls that may follow one another have what they need
 pub may_change_all : (initial : ℕ) (size : ℤ) (calls : List WindowCall) → initial ≤ max_window_size → IsInReach initial size → MayFollowAll initial size calls → MayChangeAll size calls
 may_change_all initial size [] i s h = tt

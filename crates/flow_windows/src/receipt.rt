@@ -34,7 +34,8 @@ impl Model for Receipt {
 impl Receipt {
     /// A window of `full` bytes, all of which the peer may send.
     pub fn new(full: u32) -> Receipt
-        ensures { result ≡ record { full = full; rest = full; consumed = 0; held = 0 } }
+        ensures new { result ≡ record { full = full; rest = full; consumed = 0; held = 0 } }
+        ensures parts { result.rest + result.consumed + result.held ≡ result.full }
     {
         Receipt {
             full,
@@ -51,6 +52,7 @@ impl Receipt {
             ≡ record self.old { rest = self.old.rest - n; held = self.old.held + n }) }
         ensures err { OnErr result (self.new ≡ self.old) }
         ensures step { self.new ≡ allowance_after self.old (Received n) }
+        ensures parts { self.new.rest + self.new.consumed + self.new.held ≡ self.new.full }
     {
         if n > self.rest {
             return Err(Exceeded);
@@ -66,6 +68,7 @@ impl Receipt {
         ensures counts { self.new
             ≡ record self.old { consumed = self.old.consumed + n; held = self.old.held - n } }
         ensures step { self.new ≡ allowance_after self.old (Consumed n) }
+        ensures parts { self.new.rest + self.new.consumed + self.new.held ≡ self.new.full }
     {
         self.held -= n;
         self.consumed += n;
@@ -95,6 +98,7 @@ impl Receipt {
               consumed = self.old.consumed - due_of self.old;
             } }
         ensures step { self.new ≡ allowance_after self.old Granted }
+        ensures parts { self.new.rest + self.new.consumed + self.new.held ≡ self.new.full }
     {
         let due = self.due();
         self.rest += due;

@@ -11,7 +11,7 @@ mod messages;
 
 use rows::{Answers, Row, answer_rows};
 use std::alloc::Global;
-use std::io::{self, BufReader, BufWriter, Write};
+use std::io;
 
 /// Answers each row by itself.
 #[derive(Drop)]
@@ -35,13 +35,5 @@ impl Answers for FrameRows {
 }
 
 fn main(rt: HostRuntime) -> io::Result<()> {
-    let alloc = rt.alloc();
-    let mut out = BufWriter::new(alloc, io::writer(&rt))?;
-    answer_rows(
-        alloc,
-        BufReader::new(alloc, rt.reader())?,
-        &mut out,
-        &mut FrameRows,
-    )?;
-    out.flush()
+    answer_rows(rt.alloc(), rt.reader(), io::writer(&rt), &mut FrameRows)
 }

@@ -1,6 +1,8 @@
+pub use Rattle.base.specs.Saturated
 pub use Rattle.http_rules.specs.Tokens
 pub mod Causes
 pub mod Sources
+pub mod ToldFiles
 pub mod Sinks
 pub mod Policies
 pub mod Refusals

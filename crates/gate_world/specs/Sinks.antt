@@ -26,3 +26,7 @@ Gains (Some old) new bytes = new ≡ Some (old ++ bytes)
 -- what was written grew by a prefix of these bytes, where it is told
 abbrev pub GainsPrefix : Option (List ℕ) → Option (List ℕ) → List ℕ → Type 0
 GainsPrefix old new bytes = (n : ℕ) × (n ≤ length bytes) × Gains old new (take n bytes)
+
+-- what was written grew by a prefix of these bytes that is not all of them, where it is told
+abbrev pub GainsPart : Option (List ℕ) → Option (List ℕ) → List ℕ → Type 0
+GainsPart old new bytes = (n : ℕ) × (n < length bytes) × Gains old new (take n bytes)

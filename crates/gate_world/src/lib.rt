@@ -6,6 +6,7 @@
 //! `Failed` only where its count rose. Begin with `Source` and `Sink`.
 #![tactic(auto)]
 
+pub mod examples;
 mod files;
 mod in_memory;
 mod policy;

@@ -2,17 +2,14 @@
 ghost use Rattle.std.specs.Prelude.{◌≡◌, ℕ, Bool, true, false, List};
 ghost use Rattle.gate_world.specs.Policies.{forwardable};
 
-/// A choice among the names of header fields.
+/// A choice among the names of header fields. It can be asked of every name; what an implementation needs so
+/// that it can answer stands with that implementation.
 pub trait Policy {
-    /// The names that the policy may be asked about.
-    ghost allowed: { Self → List ℕ → Type 0 };
-
     /// Whether a name passes.
     ghost picks: { Self → List ℕ → Bool };
 
-    /// True exactly where the field of this name, in lower case, goes on.
+    /// True exactly where the field of this name goes on: false for each name that is no lower-case token.
     fn forwards(&self, name: &[u8]) -> bool
-        requires { allowed self.now name.now }
         ensures { result ≡ picks self.now name.now };
 
     /// Only a name that is a lower-case token and is not reserved passes.
@@ -25,8 +22,6 @@ pub struct NoFields;
 
 impl Policy for NoFields {
     ghost use Rattle.std.proofs.Common.{rules};
-
-    ghost allowed = { λ _ _. Unit {0} };
 
     ghost picks = { λ _ _. false };
 

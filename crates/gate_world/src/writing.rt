@@ -1,7 +1,7 @@
 //! Writes bytes whole.
 ghost use Rattle.std.specs.Prelude.{◌≤◌, OnOk, OnErr};
 ghost use Rattle.gate_world.specs.Causes.{Rose};
-ghost use Rattle.gate_world.specs.Sinks.{Gains, GainsPrefix};
+ghost use Rattle.gate_world.specs.Sinks.{Gains, GainsPart};
 
 use crate::sink::{Sink, Wrote};
 
@@ -10,10 +10,10 @@ use crate::sink::{Sink, Wrote};
 pub struct WriteFailed;
 
 /// Writes all of the bytes, in as many pieces as the sink takes. Where a write fails, the sink has
-/// gained a prefix of them.
+/// gained a prefix of them, and not all.
 pub fn write_all<O: Sink>(out: &mut O, bytes: &[u8]) -> Result<(), WriteFailed>
     ensures written { OnOk result (Gains (O.written out.old) (O.written out.new) bytes.now) }
-    ensures prefix { OnErr result (GainsPrefix (O.written out.old) (O.written out.new) bytes.now) }
+    ensures part { OnErr result (GainsPart (O.written out.old) (O.written out.new) bytes.now) }
     ensures later { O.faults out.old ≤ O.faults out.new }
     ensures failed { OnErr result (Rose (O.faults out.old) (O.faults out.new)) }
 {

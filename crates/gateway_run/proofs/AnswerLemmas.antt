@@ -8,7 +8,8 @@ use Rattle.descriptor_pool.specs.ReachableTypes.{reachable}
 use Rattle.descriptor_pool.specs.SetMethods.{BoundMethod, bound_methods}
 use Rattle.descriptor_set.specs.SetReading.{set_reading}
 use Rattle.descriptor_set.specs.declared.fault.SetFault.{SetFault}
-use Rattle.descriptor_set.specs.declared.file_set.FileSet.{FileSet}
+use Rattle.descriptor_set.specs.declared.fault.SetFault.TheVariants as unread
+use Rattle.descriptors.specs.declared.file_set.FileSet.{FileSet}
 use Rattle.gate_world.specs.declared.refusal.Refusal.TheVariants as table
 use Rattle.gate_world.specs.declared.value_fault.ValueFault.TheVariants as values
 use Rattle.gateway_run.proofs.RouteLemmas.{linked_route}
@@ -26,11 +27,11 @@ use Rattle.http_rules.specs.Template.{IsTemplate, IsTemplateText}
 use Rattle.http_rules.specs.TemplateMatch.{Fits, Matches}
 use Rattle.http_rules.specs.declared.template.Template.{Template}
 use Rattle.schema.specs.Soundness.{IsSound}
-use Rattle.schema.specs.Types.{fields_of}
+use Rattle.message_types.specs.Types.{fields_of}
 use Rattle.schema.specs.Value.{slots_of}
-use Rattle.schema.specs.declared.types.fields.Field.{Field}
-use Rattle.schema.specs.declared.types.messages.TypeId.{TypeId}
-use Rattle.schema.specs.declared.types.messages.Types.{Types}
+use Rattle.message_types.specs.declared.fields.Field.{Field}
+use Rattle.message_types.specs.declared.messages.TypeId.{TypeId}
+use Rattle.message_types.specs.declared.messages.Types.{Types}
 use Rattle.schema.specs.declared.value.Value.{Value}
 use Rattle.set_faults.specs.LinkFaults.{first_fault}
 use Rattle.schema_link.specs.ServedTemplates.{IsTemplateOf}
@@ -124,30 +125,35 @@ not_both set k name second api (inr x) d = x.2 api d.1
 
 -- a set that has a fault serves nothing
 pub unserved : (bytes : List ℕ) (f : DescriptorFault) (api : Api) → IsUnserved bytes f → Declares bytes api → ⊥
-unserved bytes (faults.Unread f) api h d = absurd (cc (h, d.read))
-unserved bytes (faults.Unlinked link.NoMemory) api h d = h
-unserved bytes (faults.Unlinked (link.At k name second)) api h d =
+unserved bytes (faults.Wire w) api h d = absurd (cc (h, d.read))
+unserved bytes (faults.NotUtf8 place) api h d = absurd (cc (h, d.read))
+unserved bytes faults.TooLong api h d = absurd (cc (h, d.read))
+unserved bytes (faults.Unlinked k name second) api h d =
     let same : d.set ≡ h.set = ok_same (set_reading bytes) d.set h.set d.read h.read in
     not_both h.set k name second api h.refused (subst (λ z. IsLinkOf z (Ok api)) same d.linked)
 
 -- the fault of a set whose first fault of linking is this
 abbrev of_first : Option LinkFault → DescriptorFault
-of_first None = faults.Unlinked (link.At NotBuilt (codes "set") [])
-of_first (Some f) = faults.Unlinked f
+of_first None = faults.Unlinked NotBuilt (codes "set") []
+of_first (Some (link.At k name second)) = faults.Unlinked k name second
+of_first (Some link.NoMemory) = faults.TooLong
 
 -- the fault of an answer
 abbrev fault_of : Result FileSet SetFault → DescriptorFault
 fault_of (Ok set) = of_first (first_fault (set_faults.faults set))
-fault_of (Err f) = faults.Unread f
+fault_of (Err (unread.Wire w)) = faults.Wire w
+fault_of (Err (unread.NotUtf8 place)) = faults.NotUtf8 place
+fault_of (Err _) = faults.TooLong
 
-link_fault_is : (set : FileSet) (k : LinkKind) (name second : List ℕ) → IsLinkOf set (Err (link.At k name second)) → fault_of (Ok set) ≡ faults.Unlinked (link.At k name second)
+link_fault_is : (set : FileSet) (k : LinkKind) (name second : List ℕ) → IsLinkOf set (Err (link.At k name second)) → fault_of (Ok set) ≡ faults.Unlinked k name second
 link_fault_is set k name second (inl f) = ap of_first f
 link_fault_is set k name second (inr x) = ap of_first (ap first_fault x.0) ∙ ap (λ (z : LinkFault). of_first (Some z)) (sym x.1)
 
 fault_is : (bytes : List ℕ) (f : DescriptorFault) → IsUnserved bytes f → fault_of (set_reading bytes) ≡ f
-fault_is bytes (faults.Unread f) h = ap fault_of h
-fault_is bytes (faults.Unlinked link.NoMemory) h = absurd h
-fault_is bytes (faults.Unlinked (link.At k name second)) h = ap fault_of h.read ∙ link_fault_is h.set k name second h.refused
+fault_is bytes (faults.Wire w) h = ap fault_of h
+fault_is bytes (faults.NotUtf8 place) h = ap fault_of h
+fault_is bytes faults.TooLong h = ap fault_of h
+fault_is bytes (faults.Unlinked k name second) h = ap fault_of h.read ∙ link_fault_is h.set k name second h.refused
 
 -- a set has one fault
 pub one_fault : (bytes : List ℕ) (f g : DescriptorFault) → IsUnserved bytes f → IsUnserved bytes g → f ≡ g

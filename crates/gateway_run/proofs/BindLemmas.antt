@@ -2,15 +2,16 @@
 use Rattle.std.proofs.Common.{◌≡◌, ◌≤◌, ◌<◌, ℕ, List, [], length, take, Option, Some, None, IfSome, Result, Ok, Err, OnOk, OnErr, refl, sym, ap, ◌∙◌, subst, arith, Vec, Bool, true, false, nat_le, nat_lt}
 use Rattle.std.proofs.lemmas.Bool.Decides.{nat_tests}
 use Rattle.std.proofs.lemmas.List.{append-nil, take_all, length-take-le}
-use Rattle.gate_world.specs.Sinks.{Gains, GainsPrefix}
+use Rattle.gate_world.specs.Sinks.{Gains, GainsPart, GainsPrefix}
+use Rattle.gate_world.specs.ToldFiles.{FileMap, IsMissing, told_file}
 use Rattle.descriptor_set.specs.SetReading.{IsReading, set_reading}
 use Rattle.descriptor_set.specs.declared.fault.SetFault.{SetFault}
 use Rattle.descriptor_set.specs.declared.fault.SetFault.TheVariants as unread
-use Rattle.descriptor_set.specs.declared.file_set.FileSet.{FileSet}
+use Rattle.descriptors.specs.declared.file_set.FileSet.{FileSet}
 use Rattle.gateway_run.specs.Commands.{BindWords}
 use Rattle.gateway_run.specs.DescriptorLines.{descriptor_line}
 use Rattle.gateway_run.specs.OneRoute.{HasRoute, OneRoute, one_route}
-use Rattle.gateway_run.specs.Outcomes.{AnswersTold, Gives, IsLine, IsOutput, IsRefusedBy, Ran, stop_line, stop_status, unlinked_stop, unread_stop}
+use Rattle.gateway_run.specs.Outcomes.{Answers, AnswersTold, Gives, IsLine, IsOutput, IsRefusedBy, Ran, status_of, stop_line, stop_status, unlinked_stop, unread_stop}
 use Rattle.gateway_run.specs.RefusalLines.{refusal_line}
 use Rattle.gateway_run.specs.RequestMeaning.{IsPrinted, IsRefusal}
 use Rattle.gateway_run.specs.ServedSet.{Declares, IsUnserved, Serves}
@@ -55,23 +56,12 @@ file_declares : (file bytes : List ℕ) (api : Api) → bytes ≡ take 16777217 
 file_declares file bytes api e d = record { set = d.set; read = sym (reading_front file bytes e) ∙ d.read; linked = d.linked }
 
 file_unserved : (file bytes : List ℕ) (f : DescriptorFault) → bytes ≡ take 16777217 file → IsUnserved bytes f → IsUnserved file f
-file_unserved file bytes (faults.Unread f) e h = sym (reading_front file bytes e) ∙ h
-file_unserved file bytes (faults.Unlinked link.NoMemory) e h = h
-file_unserved file bytes (faults.Unlinked (link.At kind name second)) e h = record { set = h.set; read = sym (reading_front file bytes e) ∙ h.read; refused = h.refused }
+file_unserved file bytes (faults.Wire w) e h = sym (reading_front file bytes e) ∙ h
+file_unserved file bytes (faults.NotUtf8 place) e h = sym (reading_front file bytes e) ∙ h
+file_unserved file bytes faults.TooLong e h = sym (reading_front file bytes e) ∙ h
+file_unserved file bytes (faults.Unlinked kind name second) e h = record { set = h.set; read = sym (reading_front file bytes e) ∙ h.read; refused = h.refused }
 
 -- ---- what bytes serve
-
--- a set that is not read stops a command, but where memory is wanting
-pub other_unread : (f : SetFault) → (f ≡ unread.NoMemory → ⊥) → stop.Descriptors (faults.Unread f) ≡ unread_stop f
-other_unread (unread.Wire w) n = refl
-other_unread (unread.NotUtf8 place) n = refl
-other_unread unread.TooLong n = refl
-other_unread unread.NoMemory n = absurd (n refl)
-
--- the same of a set that is not linked
-pub other_unlinked : (f : LinkFault) → (f ≡ link.NoMemory → ⊥) → stop.Descriptors (faults.Unlinked f) ≡ unlinked_stop f
-other_unlinked (link.At kind name second) n = refl
-other_unlinked link.NoMemory n = absurd (n refl)
 
 -- bytes that are not read as a set
 pub unread_gives : (G : Api → Type 0) (bytes : List ℕ) (f : SetFault) (e : Stop) → IsReading (Err f) (set_reading bytes) → e ≡ unread_stop f
@@ -147,15 +137,25 @@ refusal_told : (told : Option (List ℕ)) (c : BindWords) (r : RequestRefusal) �
 refusal_told None c r h = tt
 refusal_told (Some file) c r h = (r, h, refl)
 
+-- where the set is missing, a command stopped for that
+missing_stops : {A : Type 0} (e : Stop) (Missing : Type 0) → (Missing → ◌≡◌ {A = Result A Stop} (Err e) (Err stop.ReadFault)) → Missing → stop_status e ≡ status.ReadFault
+missing_stops {A = A} e Missing m h = ap (status_of {A = A}) (m h)
+
 -- a command that stopped before it wrote
-pub stopped : {A : Type 0} (G : A → Type 0) (F : Type 0) (c : BindWords) (contents : List ℕ → Option (List ℕ)) (old new : Option (List ℕ)) (e : Stop)
-    → Gives {A = A} G (λ f. IfSome (contents c.set) (λ file. IsUnserved file f)) (λ r. IfSome (contents c.set) (λ file. IsRefusedBy file c r)) F (Err e) → AnswersTold (Some c) contents (stop_status e) (stop_line e) old new
-stopped G F c contents old new stop.Usage g = absurd g
-stopped G F c contents old new (stop.Descriptors f) g = fault_told (contents c.set) f g
-stopped G F c contents old new stop.ReadFault g = any_told (contents c.set)
-stopped G F c contents old new stop.WriteFault g = absurd g
-stopped G F c contents old new stop.NoMemory g = any_told (contents c.set)
-stopped G F c contents old new (stop.Refused r) g = refusal_told (contents c.set) c r g
+pub stopped : {A : Type 0} (G : A → Type 0) (F : Type 0) (c : BindWords) (files : Option FileMap) (old new : Option (List ℕ)) (e : Stop)
+    → Gives {A = A} G (λ f. IfSome (told_file files c.set) (λ file. IsUnserved file f)) (λ r. IfSome (told_file files c.set) (λ file. IsRefusedBy file c r)) F (Err e)
+    → (IsMissing files c.set → ◌≡◌ {A = Result A Stop} (Err e) (Err stop.ReadFault)) → AnswersTold (Some c) files (stop_status e) (stop_line e) old new
+stopped G F c files old new e g m = (stopped_told G F c (told_file files c.set) old new e g, missing_stops e (IsMissing files c.set) m)
+  where
+    stopped_told : {A : Type 0} (G : A → Type 0) (F : Type 0) (c : BindWords) (told old new : Option (List ℕ)) (e : Stop)
+        → Gives {A = A} G (λ f. IfSome told (λ file. IsUnserved file f)) (λ r. IfSome told (λ file. IsRefusedBy file c r)) F (Err e)
+        → IfSome told (λ file. Answers file c (stop_status e) (stop_line e) old new)
+    stopped_told G F c told old new stop.Usage g = absurd g
+    stopped_told G F c told old new (stop.Descriptors f) g = fault_told told f g
+    stopped_told G F c told old new stop.ReadFault g = any_told told
+    stopped_told G F c told old new stop.WriteFault g = absurd g
+    stopped_told G F c told old new stop.NoMemory g = any_told told
+    stopped_told G F c told old new (stop.Refused r) g = refusal_told told c r g
 
 -- its output was written whole, or in part
 pub wrote : (told : Option (List ℕ)) (c : BindWords) (out : List ℕ) (old new : Option (List ℕ)) → IfSome told (λ file. IsOutput file c out) → Gains old new out → IfSome told (λ file. (bytes : List ℕ) × IsOutput file c bytes × Gains old new bytes)
@@ -163,7 +163,7 @@ wrote None c out old new h g = tt
 wrote (Some file) c out old new h g = (out, h, g)
 
 -- the same of a part of it
-pub wrote_part : (told : Option (List ℕ)) (c : BindWords) (out : List ℕ) (old new : Option (List ℕ)) → IfSome told (λ file. IsOutput file c out) → GainsPrefix old new out → IfSome told (λ file. (bytes : List ℕ) × IsOutput file c bytes × GainsPrefix old new bytes)
+pub wrote_part : (told : Option (List ℕ)) (c : BindWords) (out : List ℕ) (old new : Option (List ℕ)) → IfSome told (λ file. IsOutput file c out) → GainsPart old new out → IfSome told (λ file. (bytes : List ℕ) × IsOutput file c bytes × GainsPart old new bytes)
 wrote_part None c out old new h g = tt
 wrote_part (Some file) c out old new h g = (out, h, g)
 
@@ -177,6 +177,10 @@ unwritten (Some xs) = ap Some (sym (append-nil xs))
 prefix_all : (old new : Option (List ℕ)) (bytes : List ℕ) → Gains old new bytes → GainsPrefix old new bytes
 prefix_all old new bytes g = (length bytes, omega arith, subst (Gains old new) (sym (take_all (length bytes) bytes (omega arith))) g)
 
+-- a part is a prefix
+part_prefix : (old new : Option (List ℕ)) (bytes : List ℕ) → GainsPart old new bytes → GainsPrefix old new bytes
+part_prefix old new bytes p = (p.0, omega (arith, p.1), p.2)
+
 stop_is : (e : Stop) → IsLine (stop_status e) (stop_line e)
 stop_is stop.Usage = refl
 stop_is (stop.Descriptors f) = (f, refl)
@@ -186,10 +190,10 @@ stop_is stop.NoMemory = refl
 stop_is (stop.Refused r) = (r, refl)
 
 -- a run whose line was written, or not
-pub told_line : {U E : Type 0} (e : Stop) (Failed : Type 0) (old new : Option (List ℕ)) (answers : List ℕ → Type 0) (r : Result U E) → OnOk r (Gains old new (stop_line e)) → OnErr r (GainsPrefix old new (stop_line e)) → OnErr r Failed
+pub told_line : {U E : Type 0} (e : Stop) (Failed : Type 0) (old new : Option (List ℕ)) (answers : List ℕ → Type 0) (r : Result U E) → OnOk r (Gains old new (stop_line e)) → OnErr r (GainsPart old new (stop_line e)) → OnErr r Failed
     → answers (stop_line e) → Ran (stop_status e) Failed old new answers
 told_line e Failed old new answers (Ok u) g p f a = record { line = stop_line e; is = stop_is e; told = λ n. g; prefix = prefix_all old new (stop_line e) g; answer = a }
-told_line e Failed old new answers (Err x) g p f a = record { line = stop_line e; is = stop_is e; told = λ n. absurd (n f); prefix = p; answer = a }
+told_line e Failed old new answers (Err x) g p f a = record { line = stop_line e; is = stop_is e; told = λ n. absurd (n f); prefix = part_prefix old new (stop_line e) p; answer = a }
 
 -- a run without a line
 pub no_line : (Failed : Type 0) (old : Option (List ℕ)) (answers : List ℕ → Type 0) → answers [] → Ran status.Done Failed old old answers

@@ -3,6 +3,7 @@ use Rattle.std.proofs.Common.{◌≡◌, ◌<◌, ◌≤◌, ◌+◌, ◌++◌, 
 use Rattle.std.proofs.Math.Seq.{take-add}
 use Rattle.std.proofs.lemmas.List.{take_all, take-append-le, length-take-le}
 use Rattle.gate_world.specs.Sources.{ReadsAt}
+use Rattle.gate_world.specs.ToldFiles.{FileMap, IsMissing}
 use Rattle.gate_world.specs.declared.source.Read.{Read}
 use Rattle.gate_world.specs.declared.source.Read.TheVariants as read
 
@@ -37,3 +38,7 @@ whole (Some file) (Some g) bytes piece from r e f a b i l m =
 pub full : (told : Option (List ℕ)) (bytes : List ℕ) → IfSome told (λ file. bytes ≡ take (length bytes) file) → length bytes ≡ 16777217 → IfSome told (λ file. bytes ≡ take 16777217 file)
 full None bytes f e = tt
 full (Some file) bytes f e = f ∙ ap (λ z. take z file) e
+
+-- where files are told as before, a read that did not fail read a file that is not missing
+pub was_there : (told was : Option FileMap) (path : List ℕ) (r : Read) → was ≡ told → (IsMissing was path → r ≡ read.Failed) → (r ≡ read.Failed → ⊥) → IsMissing told path → ⊥
+was_there told was path r e m n h = n (m (subst (λ z. IsMissing z path) (sym e) h))

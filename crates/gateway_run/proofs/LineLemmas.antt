@@ -2,10 +2,8 @@
 use Rattle.std.proofs.Common.{◌≡◌, ◌≤◌, ◌+◌, ◌==◌, ◌++◌, ℕ, false, List, [], ◌∷◌, length, take, Option, Some, None, sym, ap, ◌∙◌, subst, arith, append-nil, append_assoc, length-append, Bor, Result, Ok, Err, OnErr}
 use Rattle.std.specs.List.{flat_map}
 use Rattle.std.specs.Prelude.{codes, decimal}
-use Rattle.gateway_run.specs.DescriptorLines.{descriptor_line, is_not_built, link_text}
-use Rattle.descriptor_set.specs.declared.fault.SetFault.{SetFault}
-use Rattle.descriptor_set.specs.declared.fault.SetFault.TheVariants as unread
-use Rattle.gateway_run.specs.declared.descriptor_fault.DescriptorFault.TheVariants.{Unread}
+use Rattle.gateway_run.specs.DescriptorLines.{descriptor_line, is_not_built}
+use Rattle.gateway_run.specs.declared.descriptor_fault.DescriptorFault.TheVariants.{NotUtf8, Unlinked, Wire}
 use Rattle.set_faults.specs.LinkFaults.{kind_text}
 use Rattle.set_faults.specs.declared.fault.LinkKind.{LinkKind}
 use Rattle.wire_records.specs.WireKindNames.{wire_kind_name}
@@ -14,7 +12,7 @@ use Rattle.std.proofs.Math.Seq.{take-append-add}
 use Rattle.std.proofs.lemmas.List.{take-append-le}
 use Rattle.gate_world.specs.Causes.{Rose}
 use Rattle.gate_world.specs.Refusals.{detail_text, value_fault_text}
-use Rattle.gate_world.specs.Sinks.{Gains, GainsPrefix}
+use Rattle.gate_world.specs.Sinks.{Gains, GainsPart}
 use Rattle.gate_world.specs.declared.refusal.Detail.{Detail}
 use Rattle.gateway_run.specs.RefusalLines.{cause_of, refusal_detail, refusal_line, refusal_status, text_of}
 use Rattle.gateway_run.specs.declared.refusal.RequestRefusal.{RequestRefusal}
@@ -25,15 +23,15 @@ pub gains_both : (a b c : Option (List ℕ)) (xs ys : List ℕ) → Gains a b xs
 gains_both None b c xs ys g h = tt
 gains_both (Some old) b c xs ys g h = let k : Gains (Some (old ++ xs)) c ys = subst (λ z. Gains z c ys) g h in k ∙ ap Some (append_assoc old xs ys)
 
--- a prefix of the first is one of both
-pub prefix_first : (a b : Option (List ℕ)) (xs ys : List ℕ) → GainsPrefix a b xs → GainsPrefix a b (xs ++ ys)
-prefix_first a b xs ys p =
+-- a part of the first is one of both
+pub part_first : (a b : Option (List ℕ)) (xs ys : List ℕ) → GainsPart a b xs → GainsPart a b (xs ++ ys)
+part_first a b xs ys p =
     let within = p.1 in
-    (p.0, omega (arith, length-append xs ys, within), subst (Gains a b) (sym (take-append-le p.0 xs ys p.1)) p.2)
+    (p.0, omega (arith, length-append xs ys, within), subst (Gains a b) (sym (take-append-le p.0 xs ys (omega (arith, within)))) p.2)
 
--- the first, and a prefix of what stands behind it
-pub prefix_both : (a b c : Option (List ℕ)) (xs ys : List ℕ) → Gains a b xs → GainsPrefix b c ys → GainsPrefix a c (xs ++ ys)
-prefix_both a b c xs ys g p =
+-- the first, and a part of what stands behind it
+pub part_both : (a b c : Option (List ℕ)) (xs ys : List ℕ) → Gains a b xs → GainsPart b c ys → GainsPart a c (xs ++ ys)
+part_both a b c xs ys g p =
     let within = p.1 in
     (length xs + p.0, omega (arith, length-append xs ys, within), subst (Gains a c) (sym (take-append-add xs ys p.0)) (gains_both a b c xs (take p.0 ys) g p.2))
 
@@ -41,33 +39,30 @@ prefix_both a b c xs ys g p =
 pub rose_later : (a b c : ℕ) → a ≤ b → Rose b c → Rose a c
 rose_later a b c h r = grind (arith, h, r)
 
--- texts of which the first was written, and of the rest a prefix
-pub prefix_on_err : {U E : Type 0} (r : Result U E) (a b c : Option (List ℕ)) (xs : List ℕ) (t : Bor (List ℕ)) (ts all : List (Bor (List ℕ))) → all ≡ t ∷ ts → xs ≡ t.now → Gains a b xs
-    → OnErr r (GainsPrefix b c (flat_map (λ (u : Bor (List ℕ)). u.now) ts)) → OnErr r (GainsPrefix a c (flat_map (λ (u : Bor (List ℕ)). u.now) all))
-prefix_on_err (Ok u) a b c xs t ts all e x g p = tt
-prefix_on_err (Err w) a b c xs t ts all e x g p =
-    subst (λ z. GainsPrefix a c (flat_map (λ (u : Bor (List ℕ)). u.now) z)) (sym e)
-    (prefix_both a b c t.now (flat_map (λ (u : Bor (List ℕ)). u.now) ts) (subst (Gains a b) x g) p)
+-- texts of which the first was written, and of the rest a part
+pub part_on_err : {U E : Type 0} (r : Result U E) (a b c : Option (List ℕ)) (xs : List ℕ) (t : Bor (List ℕ)) (ts all : List (Bor (List ℕ))) → all ≡ t ∷ ts → xs ≡ t.now → Gains a b xs
+    → OnErr r (GainsPart b c (flat_map (λ (u : Bor (List ℕ)). u.now) ts)) → OnErr r (GainsPart a c (flat_map (λ (u : Bor (List ℕ)). u.now) all))
+part_on_err (Ok u) a b c xs t ts all e x g p = tt
+part_on_err (Err w) a b c xs t ts all e x g p =
+    subst (λ z. GainsPart a c (flat_map (λ (u : Bor (List ℕ)). u.now) z)) (sym e)
+    (part_both a b c t.now (flat_map (λ (u : Bor (List ℕ)). u.now) ts) (subst (Gains a b) x g) p)
 
 -- ---- the line of a set, by the texts that are written
 
 -- of a text that is not UTF-8, by its digits
-pub not_utf8_line : (f : SetFault) (place : ℕ) (digits : List ℕ) → f ≡ unread.NotUtf8 place → digits ≡ decimal place
-    → descriptor_line (Unread f) ≡ codes "descriptors: NotUtf8 at " ++ (digits ++ codes "\n")
-not_utf8_line f place digits e d =
-    ap (λ (z : SetFault). descriptor_line (Unread z)) e ∙ ap (λ z. codes "descriptors: NotUtf8 at " ++ (z ++ codes "\n")) (sym d)
+pub not_utf8_line : (place : ℕ) (digits : List ℕ) → digits ≡ decimal place
+    → descriptor_line (NotUtf8 place) ≡ codes "descriptors: NotUtf8 at " ++ (digits ++ codes "\n")
+not_utf8_line place digits d = ap (λ z. codes "descriptors: NotUtf8 at " ++ (z ++ codes "\n")) (sym d)
 
 -- of a wrong record, by its digits and the name of its kind
-pub wire_line : (f : SetFault) (w : WireFault) (digits kind : List ℕ) → f ≡ unread.Wire w → digits ≡ decimal w.place
-    → kind ≡ wire_kind_name w.kind
-    → descriptor_line (Unread f) ≡ codes "descriptors: Wire at " ++ (digits ++ (codes " " ++ (kind ++ codes "\n")))
-wire_line f w digits kind e d k =
-    rw (d, k) (ap (λ (z : SetFault). descriptor_line (Unread z)) e
-    ∙ ap (λ z. codes "descriptors: Wire at " ++ z) (append_assoc (decimal w.place) (codes " " ++ wire_kind_name w.kind) (codes "\n")))
+pub wire_line : (w : WireFault) (digits kind : List ℕ) → digits ≡ decimal w.place → kind ≡ wire_kind_name w.kind
+    → descriptor_line (Wire w) ≡ codes "descriptors: Wire at " ++ (digits ++ (codes " " ++ (kind ++ codes "\n")))
+wire_line w digits kind d k =
+    rw (d, k) (ap (λ z. codes "descriptors: Wire at " ++ z) (append_assoc (decimal w.place) (codes " " ++ wire_kind_name w.kind) (codes "\n")))
 
 -- the line of a fault with two names, by the texts that are written
 pub two_names_line : (kind : LinkKind) (name second : List ℕ) (k n s : List ℕ) → is_not_built kind ≡ false → (length second == 0) ≡ false → k ≡ kind_text kind → n ≡ name → s ≡ second
-    → codes "descriptors: " ++ (link_text kind name second ++ codes "\n") ≡ codes "descriptors: " ++ (k ++ (codes " " ++ (n ++ (codes " " ++ (s ++ codes "\n")))))
+    → descriptor_line (Unlinked kind name second) ≡ codes "descriptors: " ++ (k ++ (codes " " ++ (n ++ (codes " " ++ (s ++ codes "\n")))))
 two_names_line kind name [] k n s b c ek en es = absurd (cc (c))
 two_names_line kind name (d ∷ ds) k n s b c ek en es =
     rw (b, ek, en, es)

@@ -5,17 +5,17 @@ use Rattle.std.specs.List.{AllByRecursion, IsDistinct, filter_map}
 use Rattle.std.specs.Str.{IsUtf8}
 use Rattle.gateway_run.specs.BoundMessage.{text_slots}
 use Rattle.gateway_run.specs.OneRoute.{OneRoute, SetsString}
-use Rattle.schema.specs.Types.{field_of}
+use Rattle.message_types.specs.Types.{field_of}
 use Rattle.schema.specs.Validity.{Inner, IsItem, IsStored, IsSlot, IsFieldSlot, IsValid, oneof_of, valid_within, is_default}
 use Rattle.schema.specs.Value.{RiseFrom, slots_of}
-use Rattle.schema.specs.declared.types.fields.Field.{Field}
-use Rattle.schema.specs.declared.types.fields.Kind.{Kind}
-use Rattle.schema.specs.declared.types.fields.Presence.{Presence}
-use Rattle.schema.specs.declared.types.fields.Presence.TheVariants.{Implicit}
-use Rattle.schema.specs.declared.types.fields.Shape.{Shape}
-use Rattle.schema.specs.declared.types.fields.Shape.TheVariants.{Single}
-use Rattle.schema.specs.declared.types.messages.TypeId.{TypeId}
-use Rattle.schema.specs.declared.types.messages.Types.{Types}
+use Rattle.message_types.specs.declared.fields.Field.{Field}
+use Rattle.message_types.specs.declared.fields.Kind.{Kind}
+use Rattle.message_types.specs.declared.fields.Presence.{Presence}
+use Rattle.message_types.specs.declared.fields.Presence.TheVariants.{Implicit}
+use Rattle.message_types.specs.declared.fields.Shape.{Shape}
+use Rattle.message_types.specs.declared.fields.Shape.TheVariants.{Single}
+use Rattle.message_types.specs.declared.messages.TypeId.{TypeId}
+use Rattle.message_types.specs.declared.messages.Types.{Types}
 use Rattle.schema.specs.declared.value.Item.TheOpen as opened
 use Rattle.schema.specs.declared.value.Item.TheVariants.{outs-Text}
 use Rattle.schema.specs.declared.value.Item.{Text}

@@ -1,11 +1,11 @@
 -- What is linked of a set has one route, whose variable sets a single string.
-use Rattle.std.proofs.Common.{◌≡◌, ◌≤◌, ◌==◌, ◌∷◌, [], ℕ, zero, suc, Bool, true, false, cond, List, map, Option, Some, Ok, refl, sym, ap, ◌∙◌, subst, nat_eq, arith, slice_get, unwrap_or, option_map}
+use Rattle.std.proofs.Common.{◌≡◌, ◌≤◌, ◌==◌, ◌∷◌, [], ℕ, zero, suc, Bool, true, false, cond, List, Option, Some, Ok, refl, sym, ap, ◌∙◌, subst, nat_eq, arith, slice_get, unwrap_or, option_map}
 use Rattle.std.proofs.lemmas.Bool.{eq-eqb}
 use Rattle.std.proofs.lemmas.Bool.Decides.{nat_tests}
 use Rattle.std.specs.List.{AllByRecursion}
 use Rattle.std.specs.Str.{bytes_eq}
 use Rattle.base.proofs.EachLemmas.{each_image, each_weaker}
-use Rattle.descriptor_set.specs.declared.file_set.FileSet.{FileSet}
+use Rattle.descriptors.specs.declared.file_set.FileSet.{FileSet}
 use Rattle.descriptor_pool.specs.DeclaredNames.{declarations}
 use Rattle.descriptor_pool.specs.DeclaredTypes.{SetTypes, types_in}
 use Rattle.descriptor_pool.specs.ReachableTypes.{Joined, reachable}
@@ -13,10 +13,10 @@ use Rattle.descriptor_pool.specs.SetMethods.{BoundMethod, bound_methods}
 use Rattle.gateway_run.specs.OneRoute.{HasRoute}
 use Rattle.http_rules.specs.declared.template.Template.{Template}
 use Rattle.schema.specs.Soundness.{AreNumbersApart, IsSound, IsSoundField, IsSoundMessage}
-use Rattle.schema.specs.Types.{field_in}
-use Rattle.schema.specs.declared.types.fields.Field.{Field}
-use Rattle.schema.specs.declared.types.messages.MessageType.{MessageType}
-use Rattle.schema.specs.declared.types.messages.Types.{Types}
+use Rattle.message_types.specs.Types.{field_in}
+use Rattle.message_types.specs.declared.fields.Field.{Field}
+use Rattle.message_types.specs.declared.messages.MessageType.{MessageType}
+use Rattle.message_types.specs.declared.messages.Types.{Types}
 use Rattle.linked_types.specs.LinkedTypes.{linked_types}
 use Rattle.schema_link.specs.ServedTemplates.{IsTemplateOf}
 use Rattle.schema_link.specs.SetApi.{IsLinkOf, IsNumberOf, field_named, id_of, input_fields, served}

@@ -3,11 +3,12 @@ pub use Rattle.descriptor_set.specs.SetReading
 pub use Rattle.gate_world.specs.Causes
 pub use Rattle.gate_world.specs.Refusals
 pub use Rattle.gate_world.specs.Sinks
+pub use Rattle.gate_world.specs.ToldFiles
 pub use Rattle.http_rules.specs.Template
 pub use Rattle.http_rules.specs.Tokens
 pub use Rattle.http_rules.specs.TemplateMatch
 pub use Rattle.http_rules.specs.PercentDecoding
-pub use Rattle.schema_link.specs.LinkFaults
+pub use Rattle.set_faults.specs.LinkFaults
 pub use Rattle.schema_link.specs.ServedTemplates
 pub use Rattle.schema_link.specs.SetApi
 pub mod Commands

@@ -2,10 +2,10 @@
 use Rattle.std.specs.Prelude.{◌≡◌, ◌≤◌, ℕ, List, [], ◌∷◌, Option, Some, None, option_map}
 use Rattle.http_rules.specs.declared.template.Binding.{Binding}
 use Rattle.http_rules.specs.declared.template.Template.{Template}
-use Rattle.schema.specs.Types.{field_of}
-use Rattle.schema.specs.declared.types.fields.Field.{Field}
-use Rattle.schema.specs.declared.types.messages.TypeId.{TypeId}
-use Rattle.schema.specs.declared.types.messages.Types.{Types}
+use Rattle.message_types.specs.Types.{field_of}
+use Rattle.message_types.specs.declared.fields.Field.{Field}
+use Rattle.message_types.specs.declared.messages.TypeId.{TypeId}
+use Rattle.message_types.specs.declared.messages.Types.{Types}
 use Rattle.schema_link.specs.ServedTemplates.{IsTemplateOf}
 use Rattle.schema_link.specs.SetApi.{IsSingleString}
 use Rattle.schema_link.specs.declared.api.Api.{Api}

@@ -1,6 +1,7 @@
 -- How a run ends, and what it leaves.
 use Rattle.std.specs.Prelude.{◌≡◌, ℕ, List, [], codes, Option, Some, None, IfSome, Result, Ok, Err}
-use Rattle.gate_world.specs.Sinks.{Gains, GainsPrefix}
+use Rattle.gate_world.specs.Sinks.{Gains, GainsPart, GainsPrefix}
+use Rattle.gate_world.specs.ToldFiles.{FileMap, IsMissing, told_file}
 use Rattle.gateway_run.specs.Commands.{BindWords}
 use Rattle.gateway_run.specs.OneRoute.{OneRoute}
 use Rattle.gateway_run.specs.RefusalLines.{refusal_line}
@@ -60,15 +61,17 @@ stop_status stop.WriteFault = status.WriteFault
 stop_status stop.NoMemory = status.NoMemory
 stop_status (stop.Refused r) = status.Refused
 
--- why a command stops whose set is not read
+-- why a command stops whose set is not read: for want of memory, or a fault of the set
 abbrev pub unread_stop : SetFault → Stop
+unread_stop (unread.Wire w) = stop.Descriptors (faults.Wire w)
+unread_stop (unread.NotUtf8 place) = stop.Descriptors (faults.NotUtf8 place)
+unread_stop unread.TooLong = stop.Descriptors faults.TooLong
 unread_stop unread.NoMemory = stop.NoMemory
-unread_stop f = stop.Descriptors (faults.Unread f)
 
 -- the same of one whose set is not linked
 abbrev pub unlinked_stop : LinkFault → Stop
+unlinked_stop (link.At kind name second) = stop.Descriptors (faults.Unlinked kind name second)
 unlinked_stop link.NoMemory = stop.NoMemory
-unlinked_stop f = stop.Descriptors (faults.Unlinked f)
 
 -- its line
 abbrev pub stop_line : Stop → List ℕ
@@ -80,21 +83,22 @@ stop_line stop.NoMemory = codes "out of memory\n"
 stop_line (stop.Refused r) = refusal_line r
 
 -- what a status says of the set's file and the request: with Done the output was written whole, with
--- WriteFault a part of it; Descriptors where nothing is served, and the line is that of the fault; Refused where
--- the request is, and the line is that of the refusal
+-- WriteFault a prefix of it that is not all; Descriptors where nothing is served, and the line is that of the
+-- fault; Refused where the request is, and the line is that of the refusal
 abbrev pub Answers : List ℕ → BindWords → Status → List ℕ → Option (List ℕ) → Option (List ℕ) → Type 0
 Answers file c status.Done line old new = (bytes : List ℕ) × IsOutput file c bytes × Gains old new bytes
 Answers file c status.Usage line old new = ⊥
 Answers file c status.Descriptors line old new = (f : DescriptorFault) × IsUnserved file f × (line ≡ descriptor_line f)
 Answers file c status.ReadFault line old new = Unit {0}
-Answers file c status.WriteFault line old new = (bytes : List ℕ) × IsOutput file c bytes × GainsPrefix old new bytes
+Answers file c status.WriteFault line old new = (bytes : List ℕ) × IsOutput file c bytes × GainsPart old new bytes
 Answers file c status.NoMemory line old new = Unit {0}
 Answers file c status.Refused line old new = (r : RequestRefusal) × IsRefusedBy file c r × (line ≡ refusal_line r)
 
--- the answer to a command over what its file is told to be
-abbrev pub AnswersTold : Option BindWords → (List ℕ → Option (List ℕ)) → Status → List ℕ → Option (List ℕ) → Option (List ℕ) → Type 0
-AnswersTold None contents s line old new = Unit {0}
-AnswersTold (Some c) contents s line old new = IfSome (contents c.set) (λ file. Answers file c s line old new)
+-- the answer to a command where the set's file is told: that of its bytes, and ReadFault where it is missing
+abbrev pub AnswersTold : Option BindWords → Option FileMap → Status → List ℕ → Option (List ℕ) → Option (List ℕ) → Type 0
+AnswersTold None files s line old new = Unit {0}
+AnswersTold (Some c) files s line old new =
+    IfSome (told_file files c.set) (λ file. Answers file c s line old new) × (IsMissing files c.set → s ≡ status.ReadFault)
 
 -- a run that ended so: its line stands on `err`, where its count of faults did not rise, and the status
 -- answers the command

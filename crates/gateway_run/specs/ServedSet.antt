@@ -1,14 +1,15 @@
 -- What the bytes of a descriptor set serve, or why they serve nothing.
 use Rattle.std.specs.Prelude.{◌≡◌, ℕ, List, Some, Ok, Err}
 use Rattle.descriptor_set.specs.SetReading.{set_reading}
-use Rattle.descriptor_set.specs.declared.file_set.FileSet.{FileSet}
+use Rattle.descriptor_set.specs.declared.fault.SetFault.TheVariants as unread
+use Rattle.descriptors.specs.declared.file_set.FileSet.{FileSet}
 use Rattle.gateway_run.specs.OneRoute.{OneRoute, one_route}
 use Rattle.gateway_run.specs.declared.descriptor_fault.DescriptorFault.{DescriptorFault}
-use Rattle.gateway_run.specs.declared.descriptor_fault.DescriptorFault.TheVariants.{Unread, Unlinked}
+use Rattle.gateway_run.specs.declared.descriptor_fault.DescriptorFault.TheVariants as faults
 use Rattle.schema_link.specs.SetApi.{IsLinkOf}
 use Rattle.schema_link.specs.declared.api.Api.{Api}
 use Rattle.set_faults.specs.declared.fault.LinkFault.{LinkFault}
-use Rattle.set_faults.specs.declared.fault.LinkFault.TheVariants.{At, NoMemory}
+use Rattle.set_faults.specs.declared.fault.LinkFault.TheVariants.{At}
 
 -- bytes are read as a set, of which this is linked
 pub record Declares (bytes : List ℕ) (api : Api) : Type 0 where
@@ -24,9 +25,10 @@ pub record IsUnlinked (bytes : List ℕ) (fault : LinkFault) : Type 0 where
 
 -- why bytes serve nothing: they are not read as a set, or the set that they are read as has a fault
 abbrev pub IsUnserved : List ℕ → DescriptorFault → Type 0
-IsUnserved bytes (Unread f) = set_reading bytes ≡ Err f
-IsUnserved bytes (Unlinked (At kind name second)) = IsUnlinked bytes (At kind name second)
-IsUnserved bytes (Unlinked NoMemory) = ⊥
+IsUnserved bytes (faults.Wire w) = set_reading bytes ≡ Err (unread.Wire w)
+IsUnserved bytes (faults.NotUtf8 place) = set_reading bytes ≡ Err (unread.NotUtf8 place)
+IsUnserved bytes faults.TooLong = set_reading bytes ≡ Err unread.TooLong
+IsUnserved bytes (faults.Unlinked kind name second) = IsUnlinked bytes (At kind name second)
 
 -- the set of these bytes serves this one route
 pub record Serves (bytes : List ℕ) (route : OneRoute) : Type 0 where

@@ -1,6 +1,7 @@
 //! The command `bind SET METHOD TARGET`.
-ghost use Rattle.std.specs.Prelude.{◌≡◌, ◌≤◌, ◌<◌, ◌^◌, ◌++◌, length, Some, IfOk, IfSome, OnOk};
+ghost use Rattle.std.specs.Prelude.{◌≡◌, ◌≤◌, ◌<◌, ◌^◌, ◌++◌, length, Some, Err, IfOk, IfSome, OnOk};
 ghost use Rattle.gate_world.specs.Causes.{Rose};
+ghost use Rattle.gate_world.specs.ToldFiles.{IsMissing, told_file};
 ghost use Rattle.gateway_run.specs.CommandViews.{bind_view};
 ghost use Rattle.gateway_run.specs.OneRoute.{HasRoute, OneRoute, SetsString, one_route};
 ghost use Rattle.gateway_run.specs.Outcomes.{Gives, IsOutput, IsRefusedBy};
@@ -65,13 +66,9 @@ fn route_output(
     requires { SetsString (served_view served.now) }
     ensures { Gives (λ out. IsPrinted (served_view served.now) method.now target.now out.items) (λ _. ⊥) (IsRefusal (served_view served.now) method.now target.now) ⊥ result }
 {
-    match bind(alloc, served, method, target) {
-        Ok(message) => {
-            let out = lines(alloc, served.path.as_str().as_bytes(), message.as_slice())?;
-            Ok(out)
-        }
-        Err(stop) => Err(stop),
-    }
+    let message = bind(alloc, served, method, target)?;
+    let out = lines(alloc, served.path.as_str().as_bytes(), message.as_slice())?;
+    Ok(out)
 }
 
 /// What the command writes, for what a set serves.
@@ -91,7 +88,12 @@ pub(crate) fn bind_output<F: Files>(
     words: Bind<'_>,
     files: &mut F,
 ) -> Result<Vec<u8>, Stop>
-    ensures gives { Gives (λ out. IfSome (F.contents files.old words.entry.set.now) (λ file. IsOutput file (bind_view words.entry) out.items)) (λ f. IfSome (F.contents files.old words.entry.set.now) (λ file. IsUnserved file f)) (λ r. IfSome (F.contents files.old words.entry.set.now) (λ file. IsRefusedBy file (bind_view words.entry) r)) (Rose (F.faults files.old) (F.faults files.new)) result }
+    ensures gives { let told = told_file (F.contents files.old) words.entry.set.now in
+        let command = bind_view words.entry in
+        Gives (λ out. IfSome told (λ file. IsOutput file command out.items))
+        (λ f. IfSome told (λ file. IsUnserved file f)) (λ r. IfSome told (λ file. IsRefusedBy file command r))
+        (Rose (F.faults files.old) (F.faults files.new)) result }
+    ensures missing { IsMissing (F.contents files.old) words.entry.set.now → result ≡ Err Stop.ReadFault }
     ensures later { F.faults files.old ≤ F.faults files.new }
     ensures same { F.contents files.new ≡ F.contents files.old }
 {

@@ -2,8 +2,8 @@
 ghost use Rattle.std.specs.List.{flat_map};
 ghost use Rattle.std.specs.Prelude.{◌≡◌, ◌≤◌, ◌++◌, codes, OnOk, OnErr};
 ghost use Rattle.gate_world.specs.Causes.{Rose};
-ghost use Rattle.gate_world.specs.Sinks.{Gains, GainsPrefix};
-ghost use Rattle.gateway_run.specs.DescriptorLines.{descriptor_line, is_not_built, link_text};
+ghost use Rattle.gate_world.specs.Sinks.{Gains, GainsPart};
+ghost use Rattle.gateway_run.specs.DescriptorLines.{descriptor_line, is_not_built};
 ghost use Rattle.gateway_run.specs.Outcomes.{stop_line};
 ghost use Rattle.gateway_run.specs.RefusalLines.{refusal_line};
 
@@ -11,15 +11,16 @@ use crate::descriptor_fault::DescriptorFault;
 use crate::refusal::RequestRefusal;
 use crate::status::Stop;
 use base::Text;
-use descriptor_set::SetFault;
 use gate_world::{Sink, WriteFailed, write_all};
 use itoa::Buffer;
-use schema_link::{LinkFault, LinkKind};
+use schema_link::LinkKind;
+use wire_records::WireFault;
 
-/// Writes texts one after another. Where a write fails, the sink has gained a prefix of them, joined.
+/// Writes texts one after another. Where a write fails, the sink has gained a prefix of them,
+/// joined, and not all.
 fn write_texts<O: Sink>(out: &mut O, texts: &[&str]) -> Result<(), WriteFailed>
     ensures written { OnOk result (Gains (O.written out.old) (O.written out.new) (flat_map (λ t. t.now) texts.now)) }
-    ensures prefix { OnErr result (GainsPrefix (O.written out.old) (O.written out.new) (flat_map (λ t. t.now) texts.now)) }
+    ensures part { OnErr result (GainsPart (O.written out.old) (O.written out.new) (flat_map (λ t. t.now) texts.now)) }
     ensures later { O.faults out.old ≤ O.faults out.new }
     ensures failed { OnErr result (Rose (O.faults out.old) (O.faults out.new)) }
 {
@@ -46,8 +47,8 @@ fn write_link_line<'a, O: Sink>(
     name: &'a Text,
     second: &'a Text,
 ) -> Result<(), WriteFailed>
-    ensures written { OnOk result (Gains (O.written err.old) (O.written err.new) (codes "descriptors: " ++ (link_text kind name.now second.now ++ codes "\n"))) }
-    ensures prefix { OnErr result (GainsPrefix (O.written err.old) (O.written err.new) (codes "descriptors: " ++ (link_text kind name.now second.now ++ codes "\n"))) }
+    ensures written { OnOk result (Gains (O.written err.old) (O.written err.new) (descriptor_line (DescriptorFault.Unlinked kind name.now second.now))) }
+    ensures part { OnErr result (GainsPart (O.written err.old) (O.written err.new) (descriptor_line (DescriptorFault.Unlinked kind name.now second.now))) }
     ensures later { O.faults err.old ≤ O.faults err.new }
     ensures failed { OnErr result (Rose (O.faults err.old) (O.faults err.new)) }
 {
@@ -71,53 +72,52 @@ fn write_link_line<'a, O: Sink>(
     write_texts(err, &texts)
 }
 
-/// Writes why a descriptor set is not read.
-fn write_set_line<O: Sink>(err: &mut O, fault: SetFault) -> Result<(), WriteFailed>
-    ensures written { OnOk result (Gains (O.written err.old) (O.written err.new) (descriptor_line (DescriptorFault.Unread fault))) }
-    ensures prefix { OnErr result (GainsPrefix (O.written err.old) (O.written err.new) (descriptor_line (DescriptorFault.Unread fault))) }
+/// Writes that a record of a descriptor set is wrong.
+fn write_wire_line<O: Sink>(err: &mut O, fault: WireFault) -> Result<(), WriteFailed>
+    ensures written { OnOk result (Gains (O.written err.old) (O.written err.new) (descriptor_line (DescriptorFault.Wire fault))) }
+    ensures part { OnErr result (GainsPart (O.written err.old) (O.written err.new) (descriptor_line (DescriptorFault.Wire fault))) }
     ensures later { O.faults err.old ≤ O.faults err.new }
     ensures failed { OnErr result (Rose (O.faults err.old) (O.faults err.new)) }
 {
     let mut buffer = Buffer::new();
-    match fault {
-        SetFault::Wire(wire) => {
-            let digits = buffer.format(wire.place);
-            let kind = wire.kind.name();
-            let texts = ["descriptors: Wire at ", digits, " ", kind, "\n"];
-            write_texts(err, &texts)
-        }
-        SetFault::NotUtf8(place) => {
-            let digits = buffer.format(place);
-            let texts = ["descriptors: NotUtf8 at ", digits, "\n"];
-            write_texts(err, &texts)
-        }
-        SetFault::TooLong => write_all(err, "descriptors: TooLong\n".as_bytes()),
-        SetFault::NoMemory => write_all(err, "descriptors: out of memory\n".as_bytes()),
-    }
+    let digits = buffer.format(fault.place);
+    let kind = fault.kind.name();
+    let texts = ["descriptors: Wire at ", digits, " ", kind, "\n"];
+    write_texts(err, &texts)
+}
+
+/// Writes that a text of a descriptor set is not UTF-8.
+fn write_utf8_line<O: Sink>(err: &mut O, place: u64) -> Result<(), WriteFailed>
+    ensures written { OnOk result (Gains (O.written err.old) (O.written err.new) (descriptor_line (DescriptorFault.NotUtf8 place))) }
+    ensures part { OnErr result (GainsPart (O.written err.old) (O.written err.new) (descriptor_line (DescriptorFault.NotUtf8 place))) }
+    ensures later { O.faults err.old ≤ O.faults err.new }
+    ensures failed { OnErr result (Rose (O.faults err.old) (O.faults err.new)) }
+{
+    let mut buffer = Buffer::new();
+    let digits = buffer.format(place);
+    let texts = ["descriptors: NotUtf8 at ", digits, "\n"];
+    write_texts(err, &texts)
 }
 
 /// Writes why a descriptor set is not served.
 fn write_descriptor_line<O: Sink>(err: &mut O, fault: &DescriptorFault) -> Result<(), WriteFailed>
     ensures written { OnOk result (Gains (O.written err.old) (O.written err.new) (descriptor_line fault.now)) }
-    ensures prefix { OnErr result (GainsPrefix (O.written err.old) (O.written err.new) (descriptor_line fault.now)) }
+    ensures part { OnErr result (GainsPart (O.written err.old) (O.written err.new) (descriptor_line fault.now)) }
     ensures later { O.faults err.old ≤ O.faults err.new }
     ensures failed { OnErr result (Rose (O.faults err.old) (O.faults err.new)) }
 {
     match fault {
-        DescriptorFault::Unread(fault) => write_set_line(err, *fault),
-        DescriptorFault::Unlinked(LinkFault::At(kind, name, second)) => {
-            write_link_line(err, *kind, name, second)
-        }
-        DescriptorFault::Unlinked(LinkFault::NoMemory) => {
-            write_all(err, "descriptors: out of memory\n".as_bytes())
-        }
+        DescriptorFault::Wire(wire) => write_wire_line(err, *wire),
+        DescriptorFault::NotUtf8(place) => write_utf8_line(err, *place),
+        DescriptorFault::TooLong => write_all(err, "descriptors: TooLong\n".as_bytes()),
+        DescriptorFault::Unlinked(kind, name, second) => write_link_line(err, *kind, name, second),
     }
 }
 
 /// Writes why a request is refused.
 fn write_refusal_line<O: Sink>(err: &mut O, refusal: RequestRefusal) -> Result<(), WriteFailed>
     ensures written { OnOk result (Gains (O.written err.old) (O.written err.new) (refusal_line refusal)) }
-    ensures prefix { OnErr result (GainsPrefix (O.written err.old) (O.written err.new) (refusal_line refusal)) }
+    ensures part { OnErr result (GainsPart (O.written err.old) (O.written err.new) (refusal_line refusal)) }
     ensures later { O.faults err.old ≤ O.faults err.new }
     ensures failed { OnErr result (Rose (O.faults err.old) (O.faults err.new)) }
 {
@@ -134,10 +134,10 @@ fn write_refusal_line<O: Sink>(err: &mut O, refusal: RequestRefusal) -> Result<(
     write_texts(err, &texts)
 }
 
-/// Writes the line of a command that stopped. Where a write fails, `err` has gained a prefix of it.
+/// Writes the line of a command that stopped. Where a write fails, `err` has gained a prefix of it, and not all.
 pub(crate) fn write_line<O: Sink>(err: &mut O, stop: &Stop) -> Result<(), WriteFailed>
     ensures written { OnOk result (Gains (O.written err.old) (O.written err.new) (stop_line stop.now)) }
-    ensures prefix { OnErr result (GainsPrefix (O.written err.old) (O.written err.new) (stop_line stop.now)) }
+    ensures part { OnErr result (GainsPart (O.written err.old) (O.written err.new) (stop_line stop.now)) }
     ensures later { O.faults err.old ≤ O.faults err.new }
     ensures failed { OnErr result (Rose (O.faults err.old) (O.faults err.new)) }
 {

@@ -31,10 +31,8 @@ fn run_command<F: Files, O: Sink>(
         return Err(Stop::Usage);
     };
     let output = bind_output(alloc, bind, files)?;
-    match write_all(out, output.as_slice()) {
-        Ok(()) => Ok(()),
-        Err(_) => Err(Stop::WriteFault),
-    }
+    write_all(out, output.as_slice())?;
+    Ok(())
 }
 
 /// Runs the command of the words behind the program's name, and always returns. It reads files from
@@ -51,7 +49,8 @@ pub fn run_offline<F: Files, I: Source, O: Sink, P: Policy + Drop>(
 ) -> Status
     // Usage is exactly for words that are no command.
     ensures usage { (result ≡ Status.Usage) ↔ (command_of (map string_bytes words.now) ≡ None) }
-    // What the status says of the set and the request, what it wrote, and its line, where the contents are told.
+    // What the status says of the set and the request, what it wrote, and its line, where the contents are told;
+    // where they are, and the set's path is none of theirs, it is ReadFault.
     ensures ran { Ran result (Rose (O.faults err.old) (O.faults err.new)) (O.written err.old) (O.written err.new)
         (λ line. AnswersTold (command_of (map string_bytes words.now)) (F.contents files.old) result line (O.written out.old) (O.written out.new)) }
     // With any other status than Done and WriteFault nothing is written to `out`.

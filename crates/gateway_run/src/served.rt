@@ -44,16 +44,14 @@ fn route_of<'a>(
 ) -> Option<Served<'a>>
     ensures { option_map served_view result ≡ route_of types.now method.now binding.now }
 {
-    match only_number(binding.paths.as_slice()) {
-        Some(number) => Some(Served {
-            types,
-            input: method.input,
-            path: &method.path,
-            template: &binding.template,
-            number,
-        }),
-        None => None,
-    }
+    let number = only_number(binding.paths.as_slice())?;
+    Some(Served {
+        types,
+        input: method.input,
+        path: &method.path,
+        template: &binding.template,
+        number,
+    })
 }
 
 /// The route of an API with one method and one binding, whose template has one variable of one field.

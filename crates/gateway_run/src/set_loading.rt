@@ -1,25 +1,16 @@
 //! Reads the descriptor set's file.
-ghost use Rattle.std.specs.Prelude.{◌≡◌, ◌≤◌, ◌<◌, ◌++◌, ◌+◌, length, take, IfSome, OnOk};
+ghost use Rattle.std.specs.Prelude.{◌≡◌, ◌≤◌, ◌<◌, ◌+◌, length, take, Err, IfSome};
 ghost use Rattle.gate_world.specs.Causes.{Rose};
+ghost use Rattle.gate_world.specs.ToldFiles.{IsMissing, told_file};
 ghost use Rattle.gateway_run.specs.Outcomes.{Gives};
 
 use crate::status::Stop;
-use base::NoMemory;
 use descriptor_set::MAX_SET_BYTES;
 use gate_world::{Files, Read};
 use std::alloc::Global;
 
 /// How many bytes are asked for at a time.
 const PIECE_BYTES: usize = 16_384;
-
-/// Appends a piece.
-fn append(bytes: &mut Vec<u8>, piece: &[u8]) -> Result<(), NoMemory>
-    ensures items { OnOk result (bytes.new.items ≡ bytes.old.items ++ piece.now) }
-    ensures len { OnOk result (length bytes.new.items ≡ length bytes.old.items + length piece.now) }
-{
-    bytes.extend_from_slice(piece)?;
-    Ok(())
-}
 
 /// How many bytes there are.
 fn len_of(bytes: &Vec<u8>) -> usize
@@ -44,7 +35,10 @@ pub(crate) fn read_whole<F: Files>(
     files: &mut F,
     path: &str,
 ) -> Result<Vec<u8>, Stop>
-    ensures gives { Gives (λ bytes. IfSome (F.contents files.old path.now) (λ file. bytes.items ≡ take 16777217 file)) (λ _. ⊥) (λ _. ⊥) (Rose (F.faults files.old) (F.faults files.new)) result }
+    ensures gives { let told = told_file (F.contents files.old) path.now in
+        Gives (λ bytes. IfSome told (λ file. bytes.items ≡ take 16777217 file)) (λ _. ⊥) (λ _. ⊥)
+        (Rose (F.faults files.old) (F.faults files.new)) result }
+    ensures missing { IsMissing (F.contents files.old) path.now → result ≡ Err Stop.ReadFault }
     ensures later { F.faults files.old ≤ F.faults files.new }
     ensures same { F.contents files.new ≡ F.contents files.old }
 {
@@ -54,9 +48,7 @@ pub(crate) fn read_whole<F: Files>(
         let from = len_of(&bytes);
         let room = room_behind(from);
         match files.read(path, from as u64, &mut piece[..room]) {
-            Read::Bytes(n) => {
-                append(&mut bytes, &piece[..n])?;
-            }
+            Read::Bytes(n) => bytes.extend_from_slice(&piece[..n])?,
             Read::End => return Ok(bytes),
             Read::Failed => return Err(Stop::ReadFault),
         }

@@ -1,5 +1,5 @@
 //! How a command ends.
-ghost use Rattle.gateway_run.specs.declared.status.Stop.TheVariants.{NoMemory as no_memory};
+ghost use Rattle.gateway_run.specs.declared.status.Stop.TheVariants.{NoMemory as no_memory, WriteFault as write_fault};
 ghost use Rattle.std.specs.Prelude.{◌≡◌};
 ghost use Rattle.gateway_run.specs.Outcomes.{number_of, stop_status, unlinked_stop, unread_stop};
 
@@ -7,8 +7,9 @@ use crate::descriptor_fault::DescriptorFault;
 use crate::refusal::RequestRefusal;
 use base::NoMemory;
 use descriptor_set::SetFault;
-use gate_world::Refusal;
+use gate_world::{Refusal, WriteFailed};
 use schema_link::LinkFault;
+use std::alloc::AllocError;
 
 /// How a command ended.
 #[derive(Debug, Clone, Copy, PartialEq, Eq)]
@@ -91,8 +92,10 @@ impl From<SetFault> for Stop {
 
     fn from(fault: SetFault) -> Stop {
         match fault {
+            SetFault::Wire(wire) => Stop::Descriptors(DescriptorFault::Wire(wire)),
+            SetFault::NotUtf8(place) => Stop::Descriptors(DescriptorFault::NotUtf8(place)),
+            SetFault::TooLong => Stop::Descriptors(DescriptorFault::TooLong),
             SetFault::NoMemory => Stop::NoMemory,
-            fault => Stop::Descriptors(DescriptorFault::Unread(fault)),
         }
     }
 }
@@ -102,8 +105,10 @@ impl From<LinkFault> for Stop {
 
     fn from(fault: LinkFault) -> Stop {
         match fault {
+            LinkFault::At(kind, name, second) => {
+                Stop::Descriptors(DescriptorFault::Unlinked(kind, name, second))
+            }
             LinkFault::NoMemory => Stop::NoMemory,
-            fault => Stop::Descriptors(DescriptorFault::Unlinked(fault)),
         }
     }
 }
@@ -113,5 +118,21 @@ impl From<NoMemory> for Stop {
 
     fn from(_: NoMemory) -> Stop {
         Stop::NoMemory
+    }
+}
+
+impl From<AllocError> for Stop {
+    ghost from_gives = { λ _ stop. stop ≡ no_memory };
+
+    fn from(_: AllocError) -> Stop {
+        Stop::NoMemory
+    }
+}
+
+impl From<WriteFailed> for Stop {
+    ghost from_gives = { λ _ stop. stop ≡ write_fault };
+
+    fn from(_: WriteFailed) -> Stop {
+        Stop::WriteFault
     }
 }

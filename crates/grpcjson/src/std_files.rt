@@ -31,7 +31,7 @@ impl<'a, R> StdFiles<'a, R> {
 impl<'a, R: rt::Files> Files for StdFiles<'a, R> {
     ghost use Rattle.std.specs.Prelude.{None};
 
-    ghost contents = { λ _ _. None };
+    ghost contents = { λ _. None };
 
     ghost faults = { λ s. s.faults };
 

@@ -103,7 +103,8 @@ taken_head seen bytes l = ap (λ n. take n bytes) (taken_few seen bytes l) ∙ t
 head_next : (old : Kept) (before seen bytes : List ℕ) → StandsAt old before seen → length old.head < 9 → head_with old bytes ≡ seen ++ take (taken_of seen bytes) bytes
 head_next old before seen bytes s l = ap (λ xs. xs ++ take (9 - length xs) bytes) (head_all old before seen s l) ∙ ap (λ xs. seen ++ xs) (sym (taken_head seen bytes (few_seen old before seen s l)))
 
-begin_same : (size kind flags stream : ℕ) (head : List ℕ) → size ≡ length_with 0 head → kind ≡ kind_of head → flags ≡ flags_of head → stream ≡ stream_with 0 head → Begin size kind flags stream ≡ begin_of head
+-- a part whose numbers are those of a head is the one that begins it
+pub begin_same : (size kind flags stream : ℕ) (head : List ℕ) → size ≡ length_with 0 head → kind ≡ kind_of head → flags ≡ flags_of head → stream ≡ stream_with 0 head → Begin size kind flags stream ≡ begin_of head
 begin_same size kind flags stream head a b c d = ap₂ (λ x y. Begin x y flags stream) a b ∙ ap₂ (λ x y. Begin (length_with 0 head) (kind_of head) x y) c d
 
 head_part : (old new : Kept) (p : Position) (bytes : List ℕ) (n : ℕ) (o : Option Part) → AreBytes bytes → old.fault ≡ None → length old.head < 9 → StandsAt old p.before p.seen → IsHeadPart old bytes (head_with old bytes) n o new → Gives p bytes (Ok (record { taken = n; part = o })) new

@@ -52,7 +52,8 @@ stream_known bs h =
     let w : 8 < length bs = omega arith in
     omega (arith, ap (λ n. n % 128) (get_or_default_zero bs 5 255 x), get_or_default_zero bs 6 255 y, get_or_default_zero bs 7 255 z, get_or_default_zero bs 8 255 w)
 
-small_or : (x y n : ℕ) → y ≡ x → nat_le y n ≡ false → nat_lt n x ≡ true
+-- a number that is in reach or not
+pub small_or : (x y n : ℕ) → y ≡ x → nat_le y n ≡ false → nat_lt n x ≡ true
 small_or x y n e h = grind (arith, nat_tests)
 
 stream_or : (x y s : ℕ) → y ≡ x → (x == s && y == s) ≡ false → (nat_lt s x || nat_lt y s) ≡ true
@@ -176,3 +177,7 @@ decided_whole at bs n w =
 -- a whole frame leaves no rule undecided
 pub judge_decides : (at : Context) (bs : List ℕ) → 9 ≤ length bs → frame_size bs ≤ length bs → judge at (judged bs) ≢ Open
 judge_decides at bs n w e = subst IsNotOpen e (decided_whole at bs n w)
+
+-- ten bytes leave no rule undecided
+pub ten_decide : (at : Context) (bs : List ℕ) → 10 ≤ length bs → judge at bs ≢ Open
+ten_decide at bs ten e = subst IsNotOpen e (decided at bs ten)

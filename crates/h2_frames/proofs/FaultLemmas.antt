@@ -1,5 +1,5 @@
 -- The first fault of a list of bytes, and of a longer one.
-use Rattle.std.proofs.Common.{◌≡◌, ◌<◌, ◌≤◌, ◌+◌, ◌-◌, ◌++◌, ℕ, zero, suc, List, [], ◌∷◌, length, drop, arith, refl, sym, ap, ap₂, subst, ◌∙◌, length-append, length-drop, Option, Some, None, map}
+use Rattle.std.proofs.Common.{◌≡◌, ◌<◌, ◌≤◌, ◌+◌, ◌-◌, ◌++◌, ℕ, zero, suc, List, [], ◌∷◌, length, drop, arith, refl, sym, ap, ap₂, subst, ◌∙◌, length-append, length-drop, append-nil, Option, Some, None, map}
 use Rattle.std.proofs.lemmas.List.{take_all, map-append, drop-drop}
 use Rattle.std.proofs.Math.ListN.{drop_of_length-le}
 use Rattle.base.specs.Bytes.{AreBytes}
@@ -91,7 +91,8 @@ end_within : (j : ℕ) (at : Context) (bs : List ℕ) → length bs ≤ j → Le
 end_within zero at bs p = end_step at bs (front at bs) refl (λ f rest e. let l = whole_less at bs f rest e in absurd (omega arith))
 end_within (suc j) at bs p = end_step at bs (front at bs) refl (λ f rest e. let l = whole_less at bs f rest e in end_within j (after at f) rest (omega arith))
 
-fault_inner : (place : ℕ) (o : Option ℕ) (f : H2Fault) → fault_at place o ≡ Some f → (o ≡ Some f.code) × (f.place ≡ saturated place)
+-- a fault with its offset is one at that offset
+pub fault_inner : (place : ℕ) (o : Option ℕ) (f : H2Fault) → fault_at place o ≡ Some f → (o ≡ Some f.code) × (f.place ≡ saturated place)
 fault_inner place None f e = absurd (cc)
 fault_inner place (Some code) f e =
     let given : H2Fault = record { place = saturated place; code = code } in
@@ -102,7 +103,8 @@ cut_longer : (bytes more : List ℕ) (x : Front) → front (cut bytes).context (
 unfolding cut
 cut_longer bytes more x h = cut_append start bytes more ∙ ap (behind (cut bytes).frames) (cut_by (cut bytes).context ((cut bytes).rest ++ more) x h)
 
-cut_ends : (bytes : List ℕ) → Ends (cut bytes)
+-- what is left of bytes begins with the fault that is found in them
+pub cut_ends : (bytes : List ℕ) → Ends (cut bytes)
 unfolding cut
 cut_ends bytes = ends_within (length bytes) start bytes (omega arith)
 
@@ -123,6 +125,20 @@ first_fault-append bytes more f k m h =
     let n : length (bytes ++ more) - length ((cut bytes).rest ++ more) ≡ length bytes - length (cut bytes).rest = omega (arith, length-append bytes more, length-append (cut bytes).rest more) in
     let named : ℕ → Option H2Fault = λ place. Some (record { place = place; code = f.code }) in
     fault_of_cut (bytes ++ more) _ (cut_longer bytes more (Broken f.code) longer) ∙ ap named (ap saturated n ∙ sym inner.1)
+
+-- behind a fault no frame comes
+pub fault_frames : (bytes more : List ℕ) (f : H2Fault) → AreBytes bytes → AreBytes more → first_fault bytes ≡ Some f
+    → frames_of (bytes ++ more) ≡ frames_of bytes
+fault_frames bytes more f k m h =
+    let inner = fault_inner (length bytes - length (cut bytes).rest) (cut bytes).fault f h in
+    let e = cut_end bytes in
+    let broken : front (cut bytes).context (cut bytes).rest ≡ Broken f.code = cut_ends bytes f.code inner.0 in
+    let all : AreBytes ((cut bytes).rest ++ more) =
+    AreBytes-append (cut bytes).rest more (subst AreBytes (sym e.is) (AreBytes-drop e.count bytes k)) m in
+    let longer : front (cut bytes).context ((cut bytes).rest ++ more) ≡ Broken f.code =
+    broken_grows (cut bytes).context (cut bytes).rest more f.code all broken in
+    ap (λ c. map frame_of c.frames) (cut_longer bytes more (Broken f.code) longer)
+    ∙ ap (map frame_of) (append-nil (cut bytes).frames)
 
 frames_behind : (bytes : List ℕ) (frames : List (List ℕ)) (c : Cut) → cut bytes ≡ behind frames c → frames_of bytes ≡ map frame_of frames ++ map frame_of c.frames
 frames_behind bytes frames c e = ap (λ d. map frame_of d.frames) e ∙ map-append frame_of frames c.frames

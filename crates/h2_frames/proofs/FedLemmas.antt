@@ -19,7 +19,8 @@ gt_test m n h = grind (arith, nat_tests)
 zero_test : (n : ℕ) → n ≡ 0 → (n == 0) ≡ true
 zero_test n h = grind (arith, nat_tests)
 
-some_test : (n : ℕ) → 0 < n → (n == 0) ≡ false
+-- a test whether a number is 0
+pub some_test : (n : ℕ) → 0 < n → (n == 0) ≡ false
 some_test n h = grind (arith, nat_tests)
 
 -- a call takes bytes up to the end of the head

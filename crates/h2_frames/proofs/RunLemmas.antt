@@ -1,8 +1,10 @@
 -- Calls of a reader one after another.
-use Rattle.std.proofs.Common.{◌≡◌, ◌≢◌, ◌<◌, ◌≤◌, ◌+◌, ◌-◌, ◌++◌, ℕ, List, [], length, take, drop, min, cond, arith, refl, sym, ap, ap₂, subst, ◌∙◌, length-append, length-take, append-nil, append_assoc, Option, Some, None, Ok, Err, map}
+use Rattle.std.proofs.Common.{◌≡◌, ◌≢◌, ◌<◌, ◌≤◌, ◌+◌, ◌-◌, ◌++◌, ℕ, List, [], ◌∷◌, length, take, drop, min, cond, arith, refl, sym, ap, ap₂, subst, ◌∙◌, length-append, length-take, append-nil, append_assoc, Option, Some, None, Ok, Err, map}
 use Rattle.std.proofs.lemmas.Bool.{le-ltb, lt-ltb}
 use Rattle.std.proofs.lemmas.List.{drop-append-le, get_or_append_left, take-append-drop}
 use Rattle.std.proofs.Math.ListN.{drop_of_length-le}
+use Rattle.std.proofs.lemmas.List.Sums.{sum_by-cons}
+use Rattle.std.specs.List.{sum_by}
 use Rattle.std.specs.Option.{option_to_list}
 use Rattle.base.specs.PiecewiseReading.{FeedCall, IsRun, AddsTaken, taken_in_all}
 use Rattle.base.proofs.PiecewiseLemmas.{run_stands}
@@ -32,7 +34,8 @@ ok_by : (o : Option H2Fault) (given fed : FrameFed) → answer_by o given ≡ Ok
 ok_by None given fed e = (refl, cc)
 ok_by (Some f) given fed e = absurd (cc)
 
-ok_fine : (p : Position) (bytes : List ℕ) (fed : FrameFed) → answer_of p bytes ≡ Ok fed → IsFine p bytes fed
+-- an answer that is no refusal is fine
+pub ok_fine : (p : Position) (bytes : List ℕ) (fed : FrameFed) → answer_of p bytes ≡ Ok fed → IsFine p bytes fed
 ok_fine p bytes fed e =
     let i = ok_by (first_fault (bytes_after p bytes)) (fed_of p.seen bytes) fed e in
     record { fine = i.0; taken = sym (ap (λ (x : FrameFed). x.taken) i.1); part = sym (ap (λ (x : FrameFed). x.part) i.1) }
@@ -193,10 +196,11 @@ nothing_agrees : Agrees no_bytes nothing_told
 nothing_agrees = record { whole = no_frames; frames = no_frames_told; current = refl; most = λ nine. absurd (omega arith); fine = nothing_is_fine }
 
 -- where no Done is due, what is seen is less than a frame
-not_due : (seen : List ℕ) → part_of seen [] ≢ Some Done → 9 ≤ length seen → length seen < frame_size seen
+pub not_due : (seen : List ℕ) → part_of seen [] ≢ Some Done → 9 ≤ length seen → length seen < frame_size seen
 not_due seen h nine = either (length seen) (frame_size seen) (λ part. part) (λ all. absurd (h (part_done seen [] nine all)))
 
-part_frames : (before seen : List ℕ) → cut (before ++ seen) ≡ behind (cut before).frames (record { frames = []; rest = seen; context = (cut before).context; fault = None }) → frames_of before ≡ frames_of (before ++ seen)
+-- less than a frame behind whole frames adds none
+pub part_frames : (before seen : List ℕ) → cut (before ++ seen) ≡ behind (cut before).frames (record { frames = []; rest = seen; context = (cut before).context; fault = None }) → frames_of before ≡ frames_of (before ++ seen)
 part_frames before seen e = sym (ap (λ c. map frame_of c.frames) e ∙ ap (map frame_of) (append-nil (cut before).frames))
 
 nothing_read : Reads no_bytes [] nothing_told
@@ -234,3 +238,22 @@ run_refused calls last bytes more f run e k b m =
     let h : first_fault (bytes_after last bytes) ≡ Some f = err_by (first_fault (bytes_after last bytes)) (fed_of last.seen bytes) f e in
     let reads = run_reads calls last run in
     refused_at last (taken_in_all taken_by calls) bytes more f (taken_of last.seen bytes) reads.read h k b m
+
+-- a call takes at most what it is given
+taken_most : (p : Position) (bytes : List ℕ) → taken_of p.seen bytes ≤ length bytes
+taken_most p bytes = either (length p.seen) 9
+    (λ few. omega (arith, taken_few p.seen bytes few))
+    (λ nine. omega (arith, taken_many p.seen bytes nine))
+
+run_size : (calls : List (FeedCall FrameFed)) (old last : Position) → IsRun frame_reading old calls last → length (taken_in_all taken_by calls) ≡ sum_by (λ (call : FeedCall FrameFed). call.fed.taken) calls
+run_size [] old last run = refl
+run_size (call ∷ calls) old last run =
+    let k : IsFine old call.bytes call.fed = ok_fine old call.bytes call.fed run.1.answer in
+    let most : taken_of old.seen call.bytes ≤ length call.bytes = taken_most old call.bytes in
+    let one : length (take call.fed.taken call.bytes) ≡ call.fed.taken = omega (arith, k.taken, length-take call.fed.taken call.bytes) in
+    let others : length (taken_in_all taken_by calls) ≡ sum_by (λ (c : FeedCall FrameFed). c.fed.taken) calls = run_size calls run.0 last run.2 in
+    length-append (take call.fed.taken call.bytes) (taken_in_all taken_by calls) ∙ ap₂ (λ x y. x + y) one others ∙ sym (sum_by-cons (λ (c : FeedCall FrameFed). c.fed.taken) call calls)
+
+-- the bytes of a run are as many as its calls took
+pub run_offset : (calls : List (FeedCall FrameFed)) (last : Position) → IsRun frame_reading no_bytes calls last → length (bytes_read last) ≡ sum_by (λ (call : FeedCall FrameFed). call.fed.taken) calls
+run_offset calls last run = let reads = run_reads calls last run in ap length reads.read ∙ run_size calls no_bytes last run

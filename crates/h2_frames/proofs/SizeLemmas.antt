@@ -22,7 +22,7 @@ not_four : (n : ℕ) → (n == 5) ≡ true → (n == 4) ≡ false
 not_four n h = grind (arith, nat_tests)
 
 -- a size of a type, with what the flags say of fields and of settings
-abbrev fits_by : ℕ → ℕ → Verdict → Verdict → Verdict
+abbrev pub fits_by : ℕ → ℕ → Verdict → Verdict → Verdict
 fits_by k n v w = cond (k == DATA || k == HEADERS) (cond (nat_le (fields_size k 255) n) Keeps v)
     (cond (k == PRIORITY) (keeps_if (n == 5)) (cond (k == RST_STREAM || k == WINDOW_UPDATE) (keeps_if (n == 4))
     (cond (k == SETTINGS) (cond (n == 0) Keeps (cond (n % 6 == 0) w Breaks)) (cond (k == PING) (keeps_if (n == 8)) (cond (k == GOAWAY) (keeps_if (nat_le 8 n)) Keeps)))))
@@ -32,7 +32,8 @@ size_at q k n h x z =
     let at : ℕ → ℕ → Verdict = λ a b. fits_by a b (with_flags q (keeps_if (nat_le (fields_size a (flags_of q)) b))) (with_flags q (breaks_if (has_flag ACK (flags_of q)))) in
     kind_known q (at (kind_of q) (length_with 0 q)) h ∙ ap₂ at x z
 
-size_by : (q : List ℕ) (k n f : ℕ) → 5 ≤ length q → kind_of q ≡ k → length_with 0 q ≡ n → flags_of q ≡ f → has_size_of_kind q ≡ fits_by k n (keeps_if (nat_le (fields_size k f) n)) (breaks_if (has_flag ACK f))
+-- the size of a type with a whole head
+pub size_by : (q : List ℕ) (k n f : ℕ) → 5 ≤ length q → kind_of q ≡ k → length_with 0 q ≡ n → flags_of q ≡ f → has_size_of_kind q ≡ fits_by k n (keeps_if (nat_le (fields_size k f) n)) (breaks_if (has_flag ACK f))
 size_by q k n f h x z y =
     let four : 4 ≤ length q = omega arith in
     let at : ℕ → Verdict = λ a. fits_by k n (keeps_if (nat_le (fields_size k a) n)) (breaks_if (has_flag ACK a)) in
@@ -112,10 +113,11 @@ pad_bytes kind flags pad x y z = AreBytes_more 0 (0 ∷ 0 ∷ kind ∷ flags ∷
     (AreBytes_more kind (flags ∷ 0 ∷ 0 ∷ 0 ∷ 0 ∷ pad ∷ []) x (AreBytes_more flags (0 ∷ 0 ∷ 0 ∷ 0 ∷ pad ∷ []) y (AreBytes_more 0 (0 ∷ 0 ∷ 0 ∷ pad ∷ []) (lit< tt) (AreBytes_more 0 (0 ∷ 0 ∷ pad ∷ []) (lit< tt) (AreBytes_more 0 (0 ∷ pad ∷ []) (lit< tt) (AreBytes_more 0 (pad ∷ []) (lit< tt) (AreBytes_more pad [] z AreBytes_none)))))))))
 
 -- a frame's padding, by type, size, flags and pad length
-abbrev pads_by : ℕ → ℕ → ℕ → ℕ → Verdict
+abbrev pub pads_by : ℕ → ℕ → ℕ → ℕ → Verdict
 pads_by k n f a = cond (nat_le 261 n) Keeps (cond (k == DATA || k == HEADERS) (cond (nat_le (fields_size k 255 + 255) n) Keeps (cond (has_flag PADDED f) (cond (nat_le 255 (n - fields_size k f)) Keeps (keeps_if (nat_le a (n - fields_size k f)))) Keeps)) Keeps)
 
-pads_at : (q : List ℕ) → 10 ≤ length q → has_padding_within q ≡ pads_by (kind_of q) (length_with 0 q) (flags_of q) (get_or q 9 0)
+-- ten bytes show all of the padding
+pub pads_at : (q : List ℕ) → 10 ≤ length q → has_padding_within q ≡ pads_by (kind_of q) (length_with 0 q) (flags_of q) (get_or q 9 0)
 pads_at q h =
     let four : 4 ≤ length q = omega arith in
     let five : 5 ≤ length q = omega arith in

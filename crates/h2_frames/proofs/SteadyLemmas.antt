@@ -256,3 +256,18 @@ pub judge_grows : (at : Context) (bs more : List ℕ) (c : ℕ) → AreBytes (bs
 judge_grows at bs more c k = judge_step _ _ 1 c _ _ (begins_step at.first at.block bs more) (judge_step _ _ 6 c _ _ (small_steady bs more k) (judge_step _ _ 1 c _ _ (follows_steady at.block bs more k)
     (judge_step _ _ 1 c _ _ (stands_steady bs more k) (judge_step _ _ 1 c _ _ (push_steady bs more) (judge_step _ _ 6 c _ _ (kind_size_steady fits_kind fits_steady bs more)
     (judge_step _ _ 1 c _ _ (padding_steady bs more) (fine_not_fault c)))))))
+
+kept_step : (v w : Verdict) (code : ℕ) (x y : Judgement) → Steady v w → (x ≡ Fine → y ≡ Fine)
+    → first_broken v code x ≡ Fine → first_broken w code y ≡ Fine
+kept_step Undecided w code x y s k e = absurd (cc)
+kept_step Keeps w code x y s k e = ap (λ v. first_broken v code y) s ∙ k e
+kept_step Breaks w code x y s k e = absurd (cc)
+
+-- what keeps all rules keeps them, whatever bytes come
+pub fine_grows : (at : Context) (bs more : List ℕ) → AreBytes (bs ++ more) → judge at bs ≡ Fine
+    → judge at (bs ++ more) ≡ Fine
+fine_grows at bs more k = kept_step _ _ 1 _ _ (begins_step at.first at.block bs more)
+    (kept_step _ _ 6 _ _ (small_steady bs more k) (kept_step _ _ 1 _ _ (follows_steady at.block bs more k)
+    (kept_step _ _ 1 _ _ (stands_steady bs more k) (kept_step _ _ 1 _ _ (push_steady bs more)
+    (kept_step _ _ 6 _ _ (kind_size_steady fits_kind fits_steady bs more)
+    (kept_step _ _ 1 _ _ (padding_steady bs more) (λ e. e)))))))

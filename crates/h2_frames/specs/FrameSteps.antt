@@ -1,5 +1,5 @@
 -- What one call does to the state that a reader keeps, for each of its three steps.
-use Rattle.std.specs.Prelude.{◌≡◌, ◌≤◌, ◌<◌, ◌+◌, ◌-◌, ◌++◌, ℕ, List, [], length, take, min, Option, Some, None, Result, Ok, Err}
+use Rattle.std.specs.Prelude.{◌≡◌, ◌≤◌, ◌<◌, ◌+◌, ◌-◌, ◌^◌, ◌++◌, ℕ, List, [], length, take, min, Option, Some, None, Result, Ok, Err}
 use Rattle.base.specs.Saturated.{saturated}
 use Rattle.h2_frames.specs.declared.fault.H2Fault.{H2Fault}
 use Rattle.h2_frames.specs.declared.parts.FrameFed.{FrameFed}
@@ -32,7 +32,7 @@ abbrev pub IsHeadPart : Kept → List ℕ → List ℕ → ℕ → Option Part �
 IsHeadPart old bytes next n None new = (n ≡ length bytes) × (length next < 9) × (next ≡ old.head ++ bytes) × (new ≡ record old { head = next }) × IsNoFault (judge old.context next)
 IsHeadPart old bytes next n (Some (Begin size kind flags stream)) new = (n ≡ 9 - length old.head) × (n ≤ length bytes)
     × (new ≡ record old { head = next; left = size }) × IsNoFault (judge old.context next)
-    × (size ≡ length_with 0 next) × (kind ≡ kind_of next) × (flags ≡ flags_of next) × (stream ≡ stream_with 0 next)
+    × (size ≡ length_with 0 next) × (kind ≡ kind_of next) × (flags ≡ flags_of next) × (stream ≡ stream_with 0 next) × (stream < 2 ^ 31)
 IsHeadPart old bytes next n (Some (Piece k)) new = ⊥
 IsHeadPart old bytes next n (Some Done) new = ⊥
 

@@ -8,3 +8,9 @@ pub mod FrameReader
 pub mod FrameSteps
 pub mod FrameRuns
 pub mod FrameVerdicts
+pub mod FrameContent
+pub mod FrameRules
+pub mod FrameProgress
+pub mod FrameOffsets
+pub mod FramePositions
+pub mod FrameExamples

@@ -35,7 +35,7 @@ pub const CONTINUATION: u8 = 0x09;
 
 // Flags, each of some frame types.
 
-/// The last frame of a stream: DATA and HEADERS (RFC 9113, sections 6.1 and 6.2).
+/// The sender's last DATA or HEADERS of a stream (RFC 9113, sections 6.1 and 6.2).
 pub const END_STREAM: u8 = 0x01;
 /// An acknowledgement: SETTINGS and PING (RFC 9113, sections 6.5 and 6.7).
 pub const ACK: u8 = 0x01;

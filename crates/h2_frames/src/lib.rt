@@ -11,7 +11,9 @@
 #![tactic(auto)]
 
 pub mod codes;
+mod content;
 mod context;
+pub mod examples;
 mod fault;
 mod frame_head;
 mod frame_rules;
@@ -24,6 +26,7 @@ mod stream_rules;
 mod verdict;
 mod writer;
 
+pub use content::{bytes_before, is_padded, padding_size, waits_for_padding};
 pub use fault::H2Fault;
 pub use parts::{FrameFed, Part};
 pub use reader::FrameReader;

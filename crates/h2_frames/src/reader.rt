@@ -1,10 +1,11 @@
 //! Reads frames from bytes that come in any pieces (RFC 9113, section 4.1).
 
-ghost use Rattle.std.specs.Prelude.{◌≡◌, ◌++◌, ◌+◌, ◌<◌, ◌≤◌, ◌-◌, ◌^◌, ℕ, List, [], ◌∷◌, length, drop, min, take, IfOk, IfErr, IfSome, OnOk, OnErr, IsErr, None, vec_capacity};
+ghost use Rattle.std.specs.Prelude.{◌≡◌, ◌++◌, ◌+◌, ◌<◌, ◌≤◌, ◌-◌, ◌^◌, ℕ, List, [], ◌∷◌, length, drop, min, take, IfOk, IfErr, IfSome, OnOk, OnErr, IsErr, None, vec_capacity, false};
 ghost use Rattle.h2_frames.specs.FrameSteps.{IsHeadStep, IsPayloadStep, IsMoreStep, IsLastStep, IsJudged};
 ghost use Rattle.h2_frames.specs.FrameHead.{length_with as length_in, kind_of, flags_of, stream_with as stream_in, frame_of};
 ghost use Rattle.h2_frames.specs.Http2Frame.{frames_of};
 ghost use Rattle.h2_frames.specs.FrameReader.{Position, no_bytes, bytes_read, Stands, position_after, answer_of, work_left, IsPart};
+ghost use Rattle.h2_frames.specs.FrameProgress.{has_begun, Follows, IsRefused};
 ghost use Rattle.h2_frames.specs.FrameWords.{context_of};
 
 use crate::context::{Context, after};
@@ -48,7 +49,8 @@ fn take_in(at: Context, head: &mut Vec<u8>, most: usize, bytes: &[u8]) -> Result
 
 /// The part that a whole head is.
 fn begin(head: &[u8]) -> Part
-    ensures { result ≡ Part.Begin (length_in 0 head.now) (kind_of head.now) (flags_of head.now) (stream_in 0 head.now) }
+    ensures part { result ≡ Part.Begin (length_in 0 head.now) (kind_of head.now) (flags_of head.now) (stream_in 0 head.now) }
+    ensures stream { stream_in 0 head.now < 2 ^ 31 }
 {
     Part::Begin {
         length: length_with(0, head),
@@ -103,6 +105,7 @@ impl FrameReader {
     pub fn new(alloc: Global) -> Result<FrameReader, NoMemory>
         ensures stands { IfOk result (λ reader. Stands reader no_bytes) }
         ensures fault { IfOk result (λ reader. reader.fault ≡ None) }
+        ensures between { IfOk result (λ reader. (has_begun reader ≡ false) × (reader.left ≡ 0)) }
     {
         let head = Vec::with_capacity(alloc, 10)?;
         Ok(FrameReader {
@@ -230,6 +233,12 @@ impl FrameReader {
         // What a caller knows without these bytes.
         ensures within { IfOk result (λ fed. fed.taken ≤ length bytes.now) }
         ensures part { IfOk result (λ fed. IsPart fed.taken fed.part) }
+        // By what it keeps: how much is taken, which part is told, what is kept then, what is left
+        // of the payload, and the rules that the part tells to be kept.
+        ensures follows { IfOk result (λ fed. Follows self.old bytes.now fed self.new) }
+        // Or the rule that the bytes kept of the frame break with these.
+        ensures refuses { IfErr result (λ f. self.old.fault ≡ None
+            → IsRefused self.old bytes.now f) }
         ensures progress { IfOk result (λ fed. 0 < length bytes.now
             → work_left self.new (length bytes.now - fed.taken)
             < work_left self.old (length bytes.now)) }

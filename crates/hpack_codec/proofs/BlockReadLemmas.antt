@@ -25,7 +25,8 @@ point fields table offset = record { offset = offset; table = table; late = is_l
 abbrev pub so_far : List HeaderField → HeaderTable → ℕ → List ℕ → BlockResult
 so_far fields table offset bytes = with_fields fields (block_from (point fields table offset) 0 bytes)
 
-before_none : (x : BlockResult) → with_fields [] x ≡ x
+-- no fields before others
+pub before_none : (x : BlockResult) → with_fields [] x ≡ x
 before_none (Ok r) = refl
 before_none (Err e) = refl
 

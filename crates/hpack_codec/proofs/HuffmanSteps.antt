@@ -10,12 +10,12 @@ use Rattle.hpack_codec.specs.declared.huffman.next_states.TheConstants.{NEXT}
 use Rattle.hpack_codec.specs.declared.huffman.symbols.TheConstants.{SYMBOL}
 
 -- a symbol, if there is one, before others
-abbrev before : Option ℕ → List ℕ → List ℕ
+abbrev pub before : Option ℕ → List ℕ → List ℕ
 before None xs = xs
 before (Some s) xs = s ∷ xs
 
 -- what bits do: the symbols whose codes they end, and the bits behind
-abbrev bits_do : CodePrefix → List ℕ → List ℕ × CodePrefix
+abbrev pub bits_do : CodePrefix → List ℕ → List ℕ × CodePrefix
 bits_do p [] = ([], p)
 bits_do p (b ∷ bs) = (before (next_bit p b).0 (bits_do (next_bit p b).1 bs).0, (bits_do (next_bit p b).1 bs).1)
 
@@ -26,7 +26,7 @@ entry (s ∷ []) = if nat_lt s 256 then s else (if s == 256 then 257 else 258)
 entry (s ∷ t ∷ ss) = 258
 
 -- symbols before the text that goes on
-abbrev spelled_all : List ℕ → Option (List ℕ) → Option (List ℕ)
+abbrev pub spelled_all : List ℕ → Option (List ℕ) → Option (List ℕ)
 spelled_all [] text = text
 spelled_all (s ∷ ss) text = spelled (Some s) (spelled_all ss text)
 
@@ -34,14 +34,15 @@ spelled_before : (o : Option ℕ) (ss : List ℕ) (text : Option (List ℕ)) →
 spelled_before None ss text = refl
 spelled_before (Some s) ss text = refl
 
-text_bits : (p : CodePrefix) (bits more : List ℕ) → text_from p (bits ++ more) ≡ spelled_all (bits_do p bits).0 (text_from (bits_do p bits).1 more)
+-- the text behind bits: their symbols, and what goes on
+pub text_bits : (p : CodePrefix) (bits more : List ℕ) → text_from p (bits ++ more) ≡ spelled_all (bits_do p bits).0 (text_from (bits_do p bits).1 more)
 text_bits p [] more = refl
 text_bits p (b ∷ bits) more =
     ap (spelled (next_bit p b).0) (text_bits (next_bit p b).1 bits more)
     ∙ spelled_before (next_bit p b).0 (bits_do (next_bit p b).1 bits).0 (text_from (bits_do (next_bit p b).1 bits).1 more)
 
 -- a test that is true, and the other that it guards
-both : (b c : Bool) → (if b then c else false) ≡ true → (b ≡ true) × (c ≡ true)
+pub both : (b c : Bool) → (if b then c else false) ≡ true → (b ≡ true) × (c ≡ true)
 both true c h = (refl, h)
 both false c h = absurd (false≢true h)
 
@@ -57,10 +58,11 @@ same_truth_is false true h = absurd (false≢true h)
 same_truth_is false false h = refl
 
 -- two states have the same bits
-abbrev same : CodePrefix → CodePrefix → Bool
+abbrev pub same : CodePrefix → CodePrefix → Bool
 same p q = if p.bits == q.bits then (if p.offset == q.offset then same_truth p.ones q.ones else false) else false
 
-same_is : (p q : CodePrefix) → same p q ≡ true → p ≡ q
+-- states that the test calls the same are equal
+pub same_is : (p q : CodePrefix) → same p q ≡ true → p ≡ q
 same_is p q h =
     let h1 = both (p.bits == q.bits) (if p.offset == q.offset then same_truth p.ones q.ones else false) h in
     let h2 = both (p.offset == q.offset) (same_truth p.ones q.ones) h1.1 in

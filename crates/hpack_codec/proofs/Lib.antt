@@ -23,3 +23,14 @@ pub mod EncodingLemmas
 pub mod WrittenIntegers
 pub mod WrittenFields
 pub mod WrittenBlocks
+-- A block is a list of representations, and its fault says where they end (`blocks_are_lists_of_representations`,
+-- `bad_exactly_where_no_representation_begins`, `too_long_exactly_where_the_list_passes_the_limit`).
+pub mod RepresentationSizes
+pub mod BlockEnds
+-- Coded strings are codes and padding (`coded_strings_are_codes_and_padding`, `no_code_begins_another`).
+pub mod HuffmanCodeLemmas
+-- How the table changes (`tables_evict_from_the_end`, `first_bytes_tell_what_becomes_of_the_table`).
+pub mod EvictionLemmas
+pub mod TableChanges
+-- The blocks of a connection (`blocks_go_through_one_table`, `connections_go_on`).
+pub mod ConnectionLemmas

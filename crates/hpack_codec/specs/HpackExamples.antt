@@ -2,8 +2,10 @@
 use Rattle.std.specs.Prelude.{◌≡◌, [], ◌∷◌, ◌++◌, codes, Some, None, Ok, Err}
 use Rattle.hpack_codec.specs.PrefixInteger.{integer_in, integer_bytes}
 use Rattle.hpack_codec.specs.Huffman.{huffman_text}
+use Rattle.hpack_codec.specs.HuffmanCodes.{code_of}
 use Rattle.hpack_codec.specs.DynamicTable.{first_table}
 use Rattle.hpack_codec.specs.HeaderBlock.{HeaderBlock, header_block}
+use Rattle.hpack_codec.specs.ConnectionBlocks.{header_blocks}
 use Rattle.hpack_codec.specs.declared.fault.BlockFault.TheVariants.{Bad}
 
 -- integers (RFC 7541, appendix C.1)
@@ -28,6 +30,14 @@ pub record HuffmanExamplesHold : Type 0 where
   pub three_ones : huffman_text (0x1f ∷ []) ≡ Some (codes "a")
   pub end_of_string : huffman_text (0xff ∷ 0xff ∷ 0xff ∷ 0xff ∷ []) ≡ None
 
+-- codes of symbols (RFC 7541, appendix B)
+pub record CodeExamplesHold : Type 0 where
+  pub digit_zero : code_of 48 ≡ 0 ∷ 0 ∷ 0 ∷ 0 ∷ 0 ∷ []
+  pub letter_a : code_of 97 ≡ 0 ∷ 0 ∷ 0 ∷ 1 ∷ 1 ∷ []
+  pub letter_upper_z : code_of 90 ≡ 1 ∷ 1 ∷ 1 ∷ 1 ∷ 1 ∷ 1 ∷ 0 ∷ 1 ∷ []
+  pub nul : code_of 0 ≡ 1 ∷ 1 ∷ 1 ∷ 1 ∷ 1 ∷ 1 ∷ 1 ∷ 1 ∷ 1 ∷ 1 ∷ 0 ∷ 0 ∷ 0 ∷ []
+  pub end : code_of 256 ≡ 1 ∷ 1 ∷ 1 ∷ 1 ∷ 1 ∷ 1 ∷ 1 ∷ 1 ∷ 1 ∷ 1 ∷ 1 ∷ 1 ∷ 1 ∷ 1 ∷ 1 ∷ 1 ∷ 1 ∷ 1 ∷ 1 ∷ 1 ∷ 1 ∷ 1 ∷ 1 ∷ 1 ∷ 1 ∷ 1 ∷ 1 ∷ 1 ∷ 1 ∷ 1 ∷ []
+
 -- the first request of three on one connection (RFC 7541, appendix C.4.1), and the table after it
 abbrev pub first_request : HeaderBlock
 first_request = record {
@@ -48,6 +58,15 @@ first_response = record {
   fields = (codes ":status", codes "200") ∷ (codes "a", codes "b") ∷ [];
   table = record { fields = (codes "a", codes "b") ∷ []; max_size = 4096 };
 }
+
+-- blocks of one connection, all through one table, up to the first that is refused
+pub record ConnectionExamplesHold : Type 0 where
+  pub exchange : header_blocks first_table ((0x88 ∷ 0x40 ∷ 0x01 ∷ 0x61 ∷ 0x01 ∷ 0x62 ∷ []) ∷ (0x88 ∷ 0xbe ∷ []) ∷ [])
+      ≡ record { lists = first_response.fields ∷ first_response.fields ∷ []; table = first_response.table; fault = None }
+  pub stale : header_blocks first_table ((0x88 ∷ 0xbe ∷ []) ∷ (0x88 ∷ []) ∷ [])
+      ≡ record { lists = []; table = first_table; fault = Some (Bad 1) }
+  pub behind : header_blocks first_table ((0x88 ∷ 0x40 ∷ 0x01 ∷ 0x61 ∷ 0x01 ∷ 0x62 ∷ []) ∷ (0xbf ∷ []) ∷ (0x88 ∷ []) ∷ [])
+      ≡ record { lists = first_response.fields ∷ []; table = first_response.table; fault = Some (Bad 0) }
 
 -- blocks, and what is wrong with some
 pub record BlockExamplesHold : Type 0 where

@@ -1,10 +1,12 @@
 pub mod PrefixInteger
 pub mod Huffman
+pub mod HuffmanCodes
 pub mod HuffmanStates
 pub mod PutTexts
 pub mod StringLiteral
 pub mod StaticTable
 pub mod DynamicTable
+pub mod AddedEntries
 pub mod FieldSpans
 pub mod TableRings
 pub mod TablePuts
@@ -12,7 +14,9 @@ pub mod FieldRepresentation
 pub mod LiteralReads
 pub mod RepresentationReads
 pub mod HeaderBlock
+pub mod BlockRepresentations
 pub mod BlockReads
 pub mod DecoderState
+pub mod ConnectionBlocks
 pub mod EncodedBlock
 pub mod HpackExamples

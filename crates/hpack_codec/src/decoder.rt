@@ -1,12 +1,19 @@
 //! Decoding the header blocks of a connection (RFC 7541, section 3).
-ghost use Rattle.std.specs.Prelude.{◌≡◌, ◌≤◌, [], vec_capacity, IfOk};
+ghost use Rattle.std.specs.Prelude.{◌≡◌, ◌≤◌, ◌↔◌, ◌++◌, ℕ, List, [], ◌∷◌, None, Err, vec_capacity, IfOk};
+ghost use Rattle.hpack_codec.specs.BlockRepresentations.{IsBadAt, PassesLimit};
+ghost use Rattle.hpack_codec.specs.ConnectionBlocks.{header_blocks, IsNextAnswer, StandsForBlocks};
 ghost use Rattle.hpack_codec.specs.DecoderState.{first_decoder, next_block, IsDecoded};
+ghost use Rattle.hpack_codec.specs.DynamicTable.{first_table, HeaderTable};
 ghost use Rattle.hpack_codec.specs.BlockReads.{IsBlockRead};
 ghost use Rattle.hpack_codec.specs.HeaderBlock.{header_block};
 
 use crate::dynamic_table::DynamicTable;
 use crate::fault::{BlockFault, ReadFault};
 use crate::fields::{Fields, MAX_LIST_SIZE};
+use crate::laws::{
+    bad_exactly_where_no_representation_begins, decoders_stand_for_their_blocks,
+    too_long_exactly_where_the_list_passes_the_limit,
+};
 use crate::representation::read_representation;
 use base::NoMemory;
 use std::alloc::Global;
@@ -39,8 +46,10 @@ impl Model for Decoder {
 impl Decoder {
     /// A decoder of a new connection, with an empty table of 4,096 bytes and all room reserved.
     pub fn new(alloc: Global) -> Result<Decoder, NoMemory>
-        ensures { IfOk result (λ d. d ≡ first_decoder) }
+        ensures fresh { IfOk result (λ d. d ≡ first_decoder) }
+        ensures stands { IfOk result (λ d. StandsForBlocks first_table d []) }
     {
+        decoders_stand_for_their_blocks();
         Ok(Decoder {
             table: DynamicTable::new(alloc)?,
             scratch: Vec::with_capacity(alloc, SCRATCH_BYTES)?,
@@ -51,6 +60,24 @@ impl Decoder {
     /// Replaces the fields by those of the next block. After a refusal there are none. Takes no
     /// memory.
     pub fn decode(&mut self, block: &[u8], fields: &mut Fields) -> Result<(), BlockFault>
+        ensures decoded { IsDecoded (next_block self.old.refused self.old.table block.now) result fields.new self.new }
+        ensures bad { (offset : ℕ) → self.old.refused ≡ None
+            → (result ≡ Err (BlockFault.Bad offset)) ↔ IsBadAt 65536 self.old.table block.now offset }
+        ensures too_long { self.old.refused ≡ None
+            → (result ≡ Err BlockFault.TooLong) ↔ PassesLimit 65536 self.old.table block.now }
+        ensures stands { (t : HeaderTable) (blocks : List (List ℕ)) → StandsForBlocks t self.old blocks
+            → StandsForBlocks t self.new (blocks ++ block.now ∷ []) }
+        ensures answers { (t : HeaderTable) (blocks : List (List ℕ)) → StandsForBlocks t self.old blocks
+            → IsNextAnswer (header_blocks t blocks) (header_blocks t (blocks ++ block.now ∷ [])) result fields.new }
+    {
+        bad_exactly_where_no_representation_begins();
+        too_long_exactly_where_the_list_passes_the_limit();
+        decoders_stand_for_their_blocks();
+        self.decode_next(block, fields)
+    }
+
+    /// What `decode` answers, and what it leaves.
+    fn decode_next(&mut self, block: &[u8], fields: &mut Fields) -> Result<(), BlockFault>
         ensures { IsDecoded (next_block self.old.refused self.old.table block.now) result fields.new self.new }
     {
         fields.clear();

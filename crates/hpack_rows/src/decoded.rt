@@ -23,61 +23,55 @@ pub(crate) fn put_fields(alloc: Global, out: &mut String, fields: &Fields) -> io
     Ok(())
 }
 
-/// Appends the fields of a block, or its fault.
+/// What is told of a block.
+#[derive(Clone, Copy)]
+pub(crate) enum Told {
+    /// Its fields; where it has a fault that, and the fields only if any are left.
+    Fields,
+    /// How many fields there are, behind its fault if it has one.
+    Count,
+}
+
+/// Appends what is told of a block that was decoded.
 fn put_block(
     alloc: Global,
     out: &mut String,
-    told: Result<(), BlockFault>,
+    told: Told,
+    answer: Result<(), BlockFault>,
     fields: &Fields,
 ) -> io::Result<()> {
-    if let Err(fault) = told {
+    if let Err(fault) = answer {
         out.push_str(format!(in alloc; "{fault}")?.as_str())?;
-        if fields.is_empty() {
-            return Ok(());
-        }
-        out.push_str(" with ")?;
-    }
-    put_fields(alloc, out, fields)
-}
-
-/// The fields of blocks of one connection, or the fault of each.
-pub(crate) fn blocks(alloc: Global, row: &mut Row) -> io::Result<String> {
-    let mut out = String::new(alloc);
-    let mut decoder = kept(Decoder::new(alloc))?;
-    let mut fields = kept(Fields::new(alloc))?;
-    for i in 0..MOST_BLOCKS {
-        if row.is_empty() {
-            break;
-        }
-        if i > 0 {
-            out.push_str("; ")?;
-        }
-        let block = row.bytes(alloc)?;
-        let told = decoder.decode(block.as_slice(), &mut fields);
-        put_block(alloc, &mut out, told, &fields)?;
-    }
-    Ok(out)
-}
-
-/// How many fields blocks of one connection have, or the fault of each.
-pub(crate) fn counts(alloc: Global, row: &mut Row) -> io::Result<String> {
-    let mut out = String::new(alloc);
-    let mut decoder = kept(Decoder::new(alloc))?;
-    let mut fields = kept(Fields::new(alloc))?;
-    for i in 0..MOST_BLOCKS {
-        if row.is_empty() {
-            break;
-        }
-        if i > 0 {
-            out.push_str("; ")?;
-        }
-        let block = row.bytes(alloc)?;
-        let told = decoder.decode(block.as_slice(), &mut fields);
-        let count = fields.len();
         match told {
-            Ok(()) => out.push_str(format!(in alloc; "{count}")?.as_str())?,
-            Err(fault) => out.push_str(format!(in alloc; "{fault}, {count}")?.as_str())?,
+            Told::Fields if fields.is_empty() => return Ok(()),
+            Told::Fields => out.push_str(" with ")?,
+            Told::Count => out.push_str(", ")?,
         }
+    }
+    match told {
+        Told::Fields => put_fields(alloc, out, fields),
+        Told::Count => {
+            let count = fields.len();
+            Ok(out.push_str(format!(in alloc; "{count}")?.as_str())?)
+        }
+    }
+}
+
+/// What is told of blocks of one connection, one after another.
+pub(crate) fn blocks(alloc: Global, row: &mut Row, told: Told) -> io::Result<String> {
+    let mut out = String::new(alloc);
+    let mut decoder = kept(Decoder::new(alloc))?;
+    let mut fields = kept(Fields::new(alloc))?;
+    for i in 0..MOST_BLOCKS {
+        if row.is_empty() {
+            break;
+        }
+        if i > 0 {
+            out.push_str("; ")?;
+        }
+        let block = row.bytes(alloc)?;
+        let answer = decoder.decode(block.as_slice(), &mut fields);
+        put_block(alloc, &mut out, told, answer, &fields)?;
     }
     Ok(out)
 }

@@ -13,9 +13,10 @@ mod encoded;
 mod evicted;
 mod table;
 
+use decoded::Told;
 use rows::{Answers, Row, answer_rows};
 use std::alloc::Global;
-use std::io::{self, BufReader, BufWriter, Write};
+use std::io;
 
 /// Answers each row by itself.
 #[derive(Drop)]
@@ -24,8 +25,8 @@ struct HpackRows;
 impl Answers for HpackRows {
     fn answer(&mut self, alloc: Global, row: &mut Row) -> io::Result<String> {
         match row.word() {
-            "blocks" => decoded::blocks(alloc, row),
-            "count" => decoded::counts(alloc, row),
+            "blocks" => decoded::blocks(alloc, row, Told::Fields),
+            "count" => decoded::blocks(alloc, row, Told::Count),
             "table" => table::of_blocks(alloc, row),
             "evicted_behind" => evicted::behind_size(alloc, row),
             "evicted_before" => evicted::before_size(alloc, row),
@@ -38,13 +39,5 @@ impl Answers for HpackRows {
 }
 
 fn main(rt: HostRuntime) -> io::Result<()> {
-    let alloc = rt.alloc();
-    let mut out = BufWriter::new(alloc, io::writer(&rt))?;
-    answer_rows(
-        alloc,
-        BufReader::new(alloc, rt.reader())?,
-        &mut out,
-        &mut HpackRows,
-    )?;
-    out.flush()
+    answer_rows(rt.alloc(), rt.reader(), io::writer(&rt), &mut HpackRows)
 }

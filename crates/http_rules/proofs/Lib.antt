@@ -18,5 +18,7 @@ pub mod SpanLemmas
 pub mod MatchLemmas
 -- What a variable takes, decoded (`capture`).
 pub mod DecodingLemmas
+-- Decoding but for slashes against decoding whole (`without_escaped_slashes`, `decodings_differ_at_slashes`).
+pub mod SlashLemmas
 -- Worked examples of the definitions.
 pub mod StandardFacts

@@ -3,6 +3,7 @@ pub mod TemplatePrefix
 pub mod TemplateText
 pub mod TemplateMatch
 pub mod PercentDecoding
+pub mod EscapedSlashes
 pub mod TemplateFaults
 pub mod TemplateMachine
 pub mod TemplateLimits

@@ -1,5 +1,5 @@
 -- Tokens (RFC 9110, section 5.6.2), as tests of bytes.
-use Rattle.std.specs.Prelude.{ℕ, ◌&&◌, Bool, List, length, nat_le, not}
+use Rattle.std.specs.Prelude.{◌≡◌, ℕ, ◌&&◌, Bool, true, List, codes, length, nat_le, not}
 use Rattle.std.specs.List.{list_any}
 use Rattle.std.specs.Char.{is_ascii_uppercase}
 use Rattle.httparse.specs.Grammar as grammar
@@ -19,3 +19,11 @@ is_short_token bytes = nat_le (length bytes) 32 && is_token bytes
 -- a token without capital letters
 abbrev pub is_lower_case_token : List ℕ → Bool
 is_lower_case_token bytes = is_token bytes && not (list_any is_ascii_uppercase bytes)
+
+-- the methods that a rule names by its field (google/api/http.proto, HttpRule) are short tokens
+pub record NamedMethodsAreTokens : Type 0 where
+  pub get : is_short_token (codes "GET") ≡ true
+  pub put : is_short_token (codes "PUT") ≡ true
+  pub post : is_short_token (codes "POST") ≡ true
+  pub delete : is_short_token (codes "DELETE") ≡ true
+  pub patch : is_short_token (codes "PATCH") ≡ true

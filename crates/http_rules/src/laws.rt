@@ -1,10 +1,14 @@
 //! Laws of the definitions that the calls' contracts cite. Each is the contract of an empty function.
 ghost use Rattle.std.specs.Prelude.{◌≡◌, ◌≢◌, ◌<◌, ◌≤◌, ◌↔◌, ℕ, List, [], ◌∷◌, ◌++◌, length, take, get_or, slice_get, Some};
-ghost use Rattle.std.specs.List.{AllByRecursion};
+ghost use Rattle.std.specs.List.{AllByRecursion, flat_map};
+ghost use Rattle.percent_encoding.specs.Percent.{percent_decode};
 ghost use Rattle.http_rules.specs.declared.template.Template.{Template};
 ghost use Rattle.http_rules.specs.declared.template.Variable.{Variable};
 ghost use Rattle.http_rules.specs.declared.template.Segment.TheVariants.{Literal};
 ghost use Rattle.http_rules.specs.Template.{IsLiteral, IsSegment, IsTemplateText, IsTemplate, AreRanges, verb_text};
+ghost use Rattle.http_rules.specs.EscapedSlashes.{HasNoSlashEscape, decoded_parts, part_escaped, part_whole};
+ghost use Rattle.http_rules.specs.PercentDecoding.{captured, decode_but_slashes};
+ghost use Rattle.http_rules.specs.Tokens.{NamedMethodsAreTokens};
 ghost use Rattle.http_rules.specs.TemplatePrefix.{BeginsTemplate, IsSyntaxFault};
 ghost use Rattle.http_rules.specs.TemplateText.{template_text, slashed_segments};
 ghost use Rattle.http_rules.specs.TemplateMatch.{IsPath, AreLiterals, Matches, AreSpansOf, Fits};
@@ -66,4 +70,22 @@ pub fn fits_in_one_way()
 /// The spans of a template that fits a path are one for each variable, and lie inside the path.
 pub fn spans_lie_inside()
     ensures { (t : Template) (path : List ℕ) (spans : List (ℕ × ℕ)) → Matches t path spans → AreSpansOf t path spans }
+{}
+
+/// A text without `%2F` and `%2f` is decoded whole, also where a variable takes several segments.
+pub fn without_escaped_slashes()
+    ensures decoded { (text : List ℕ) → HasNoSlashEscape text → decode_but_slashes text ≡ percent_decode text }
+    ensures captured { (t : Template) (index : ℕ) (text : List ℕ) → HasNoSlashEscape text → captured t index text ≡ percent_decode text }
+{}
+
+/// Decoding but for slashes and decoding whole differ at escaped slashes alone: they are made of the
+/// same parts, and where one keeps the three bytes of such an escape the other has a slash.
+pub fn decodings_differ_at_slashes()
+    ensures escaped { (text : List ℕ) → decode_but_slashes text ≡ flat_map part_escaped (decoded_parts text) }
+    ensures whole { (text : List ℕ) → percent_decode text ≡ flat_map part_whole (decoded_parts text) }
+{}
+
+/// GET, PUT, POST, DELETE and PATCH are tokens of at most 32 bytes.
+pub fn named_methods_are_tokens()
+    ensures { NamedMethodsAreTokens }
 {}

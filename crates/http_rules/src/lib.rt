@@ -5,6 +5,7 @@
 //! template fits is defined here (`Matches`) and searched in `path_router`. Begin with `Template`.
 #![tactic(auto)]
 
+pub mod examples;
 mod fault;
 pub mod laws;
 mod order;

@@ -5,3 +5,4 @@ pub mod WithinLemmas
 pub mod CountLemmas
 pub mod PrefixLemmas
 pub mod EndedLemmas
+pub mod GivenLemmas

@@ -1,10 +1,14 @@
 pub mod FeedLemmas
 pub mod StandLemmas
+pub mod ReadLemmas
 pub mod HeldText
 pub mod HeldLemmas
+pub mod HeldSizes
 pub mod PutLemmas
 pub mod RunLemmas
 pub mod EndLemmas
 pub mod CallLemmas
 pub mod CallRuns
+pub mod PieceLemmas
 pub mod FrontLemmas
+pub mod TokenLists

@@ -4,3 +4,4 @@ pub mod MarkLemmas
 pub mod TokenLemmas
 pub mod TokenRuns
 pub mod TreeLemmas
+pub mod OrderLemmas

@@ -1,5 +1,5 @@
 -- What is kept of a word is UTF-8, but for a character that has not ended.
-use Rattle.std.specs.Prelude.{◌≡◌, ℕ, zero, suc, List, [], ◌∷◌, ◌++◌, IsTrue, Option, Some, None, ⊤}
+use Rattle.std.specs.Prelude.{◌≡◌, ℕ, zero, suc, ◌-◌, List, [], ◌∷◌, ◌++◌, IsTrue, Option, Some, None, ⊤}
 use Rattle.std.specs.Str.{IsUtf8}
 use Rattle.json_events.specs.declared.state.StringState.{StringState}
 use Rattle.json_events.specs.declared.state.StringState.TheVariants.{Plain, Continuation, Escape, Hex, LowSolidus, LowU, Low, Closed}
@@ -40,7 +40,40 @@ HoldsWord Exponent held = IsUtf8 held
 HoldsWord Sign held = IsUtf8 held
 HoldsWord Power held = IsUtf8 held
 
--- what is kept where a word may have begun
+-- what is kept where a word may have begun; nothing is said of no word
 abbrev pub HoldsAt : Option WordState → List ℕ → Type 0
 HoldsAt None held = ⊤
 HoldsAt (Some l) held = HoldsWord l held
+
+-- what is kept of the word that has begun, and nothing where none has
+abbrev pub HoldsOnly : Option WordState → List ℕ → Type 0
+HoldsOnly None held = held ≡ []
+HoldsOnly (Some l) held = HoldsWord l held
+
+-- how many of the bytes that came of a string are not kept, at least
+abbrev pub unkept : StringState → ℕ
+unkept Plain = 1
+unkept (Continuation low high n) = 1
+unkept Escape = 2
+unkept (Hex k v) = 7 - k
+unkept (LowSolidus h) = 7
+unkept (LowU h) = 8
+unkept (Low h k v) = 13 - k
+unkept Closed = 0
+
+-- the same of a word
+abbrev pub unkept_of : WordState → ℕ
+unkept_of (Open b) = 0
+unkept_of (Close b) = 0
+unkept_of Comma = 0
+unkept_of Colon = 0
+unkept_of (Literal n k) = 0
+unkept_of (Inside s) = unkept s
+unkept_of Minus = 0
+unkept_of Zero = 0
+unkept_of Whole = 0
+unkept_of Point = 0
+unkept_of Fraction = 0
+unkept_of Exponent = 0
+unkept_of Sign = 0
+unkept_of Power = 0

@@ -1,5 +1,5 @@
 -- What a reader stands for: the bytes that it took and the tokens that it gave.
-use Rattle.std.specs.Prelude.{◌≡◌, ℕ, ◌+◌, ◌-◌, ◌<◌, ◌≤◌, ◌↔◌, List, [], ◌∷◌, ◌++◌, length, true, Option, Some, None, ⊤}
+use Rattle.std.specs.Prelude.{◌≡◌, ℕ, ◌+◌, ◌-◌, ◌<◌, ◌≤◌, ◌↔◌, List, [], ◌∷◌, ◌++◌, length, take, true, Option, Some, None, ⊤}
 use Rattle.std.specs.List.{AllByRecursion}
 use Rattle.json_events.specs.declared.state.Bracket.{Bracket}
 use Rattle.json_events.specs.declared.state.Want.{Want}
@@ -38,6 +38,34 @@ HasNotEnded n t = EndsPast n t.mark t.to
 -- the token has ended within the first bytes, so many
 abbrev pub HasEnded : ℕ → Span → Type 0
 HasEnded n t = HasNotEnded n t → ⊥
+
+-- of each text that begins with the bytes, and whose tokens begin with these, no other token has ended in them
+abbrev pub NoOtherHasEnded : List ℕ → List Span → Type 0
+NoOtherHasEnded bytes ts = (s : List ℕ) (others : List Span) (j : Json) → IsTextWith j (bytes ++ s) (ts ++ others)
+    → AllByRecursion (HasNotEnded (length bytes)) others
+
+-- the tokens of bytes, which begin a text: its tokens begin with these, each of them has ended in the bytes, and
+-- no other has
+pub record AreTokensOf (bytes : List ℕ) (ts : List Span) : Type 0 where
+  pub begins : BeginsWith bytes ts
+  pub ended : AllByRecursion (HasEnded (length bytes)) ts
+  pub no_other : NoOtherHasEnded bytes ts
+
+-- each of the tokens has ended in the first of the bytes, so many, which begin a text whose tokens begin with these
+pub record HaveEndedIn (bytes : List ℕ) (ts : List Span) : Type 0 where
+  pub count : ℕ
+  pub within : count ≤ length bytes
+  pub begins : BeginsWith (take count bytes) ts
+  pub ended : AllByRecursion (HasEnded count) ts
+
+-- the tokens stand one behind another, from an offset on, and none is empty
+abbrev pub StandInOrder : ℕ → List Span → Type 0
+StandInOrder at [] = ⊤
+StandInOrder at (t ∷ ts) = (at ≤ t.from) × (t.from < t.to) × StandInOrder t.to ts
+
+-- a number that ends where so many bytes end: no further byte has shown that it has ended
+abbrev pub IsPending : ℕ → Span → Type 0
+IsPending n t = (s : List ℕ) × (t.mark ≡ digits s) × (t.to ≡ n)
 
 -- how many brackets are open behind a mark, where so many were before it
 abbrev pub level_behind : Mark → ℕ → ℕ

@@ -19,14 +19,14 @@ use Rattle.json_events.specs.declared.progress.Progress.{Progress}
 use Rattle.json_events.specs.JsonTree.{opens}
 use Rattle.json_events.specs.JsonText.{Span, with_token}
 use Rattle.json_events.specs.WordSteps.{Word, begin, text_mark}
-use Rattle.json_events.specs.HeldWords.{HoldsAt}
+use Rattle.json_events.specs.HeldWords.{HoldsOnly}
 use Rattle.json_events.specs.NestingSteps.{Place, next}
 use Rattle.json_events.specs.NestingSpot.{spot_seen}
 use Rattle.json_events.specs.ReadingSteps.{leaves, gap, failed, wants_key, begins}
 use Rattle.json_events.specs.ReadingMoves.{Moved, lost, moved_at}
 use Rattle.json_events.specs.JsonTokens.{level_in, level_limit}
 use Rattle.base.specs.Saturated.{saturated}
-use Rattle.json_events.specs.ReaderState.{Reading, config_at}
+use Rattle.json_events.specs.ReaderState.{Reading, config_at, KeepsLess}
 use Rattle.json_events.specs.ReaderAnswers.{mark_seen}
 
 -- the state of a word, where one has begun
@@ -61,7 +61,7 @@ word_seen w held = record { state = w.state; is_key = w.is_key; held = held }
 
 -- what is kept fits the word
 abbrev pub HoldsReading : Reading → Type 0
-HoldsReading r = HoldsAt r.word r.held
+HoldsReading r = HoldsOnly r.word r.held × KeepsLess r.word r.held r.from r.at
 
 -- the word, where one has begun, began there
 abbrev pub BeganAt : Reading → ℕ → Type 0

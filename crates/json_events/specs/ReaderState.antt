@@ -1,5 +1,5 @@
 -- What a reader keeps, and the bytes and tokens for which it stands.
-use Rattle.std.specs.Prelude.{◌≡◌, ℕ, ◌+◌, ◌<◌, ◌≤◌, ◌⊎◌, List, [], ◌∷◌, ◌++◌, length, take, Bool, true, Option, Some, None, ⊤}
+use Rattle.std.specs.Prelude.{◌≡◌, ℕ, ◌+◌, ◌-◌, ◌<◌, ◌≤◌, ◌^◌, ◌⊎◌, List, [], ◌∷◌, ◌++◌, length, take, Bool, true, Option, Some, None, ⊤}
 use Rattle.std.specs.Option.{IfSome}
 use Rattle.base.specs.Saturated.{saturated}
 use Rattle.json_events.specs.declared.state.Bracket.{Bracket}
@@ -14,8 +14,8 @@ use Rattle.json_events.specs.WordSteps.{is_number}
 use Rattle.json_events.specs.WordStates.{IsOpen}
 use Rattle.json_events.specs.NestingSteps.{Place}
 use Rattle.json_events.specs.ReadingSteps.{Config, config, gap}
-use Rattle.json_events.specs.HeldWords.{HoldsAt}
-use Rattle.json_events.specs.JsonTokens.{BeginsWith, IsNoTextWith, level, level_in, level_limit, Awaits}
+use Rattle.json_events.specs.HeldWords.{HoldsOnly, unkept_of}
+use Rattle.json_events.specs.JsonTokens.{BeginsWith, IsNoTextWith, NoOtherHasEnded, AreTokensOf, level, level_in, level_limit, Awaits}
 
 -- the word that has begun and not ended, whether it stands where a key is wanted, and what is kept of it;
 -- the place behind it; where it began, and how many bytes were taken
@@ -41,10 +41,16 @@ abbrev pub IsReadableWord : Option WordState → List ℕ → Want → Type 0
 IsReadableWord None held w = ⊤
 IsReadableWord (Some l) held w = IsOpen l × (is_number l ≡ true → w ≡ want.After)
 
+-- what is kept of a word and what is not, by its state, are no more than what came of it, which exact offsets tell
+abbrev pub KeepsLess : Option WordState → List ℕ → ℕ → ℕ → Type 0
+KeepsLess None held from at = ⊤
+KeepsLess (Some l) held from at = at < 2 ^ 64 - 1 → from + length held + unkept_of l ≤ at
+
 -- some bytes complete it, what is kept fits, and no more brackets are open than may be
 pub record IsReadable (r : Reading) : Type 0 where
   pub word : IsReadableWord r.word r.held r.place.want
-  pub holds : HoldsAt r.word r.held
+  pub holds : HoldsOnly r.word r.held
+  pub kept : KeepsLess r.word r.held r.from r.at
   pub shallow : level_in r.place.want r.place.around ≤ level_limit
 
 -- the bytes came and the tokens were given
@@ -55,23 +61,27 @@ pub record StandsFor (r : Reading) (bytes : List ℕ) (ts : List Span) : Type 0 
   pub shallow : level ts ≤ level_limit
   pub awaits : Awaits (config_at r start (length bytes)) bytes ts
 
--- so many of the bytes begin a text whose tokens begin with these, and one more does not
+-- so many of the bytes begin a text whose tokens begin with these, no other token has ended in them, and one byte
+-- more begins no such text
 pub record IsBroken (bytes : List ℕ) (ts : List Span) (k : ℕ) : Type 0 where
   pub within : k < length bytes
   pub alive : BeginsWith (take k bytes) ts
+  pub no_other : NoOtherHasEnded (take k bytes) ts
   pub dead : BeginsWith (take (k + 1) bytes) ts → ⊥
 
--- the byte behind so many is an opening bracket with which a text begins, and as many are open as may be
+-- the byte behind so many is an opening bracket: with it the tokens of the bytes are these and the bracket, and
+-- as many are open before it as may be
 pub record IsTooDeep (bytes : List ℕ) (ts : List Span) (k : ℕ) : Type 0 where
   pub bracket : Bracket
   pub within : k < length bytes
-  pub alive : BeginsWith (take (k + 1) bytes) (ts ++ record { mark = opens bracket; from = k; to = k + 1 } ∷ [])
+  pub tokens : AreTokensOf (take (k + 1) bytes) (ts ++ record { mark = opens bracket; from = k; to = k + 1 } ∷ [])
   pub full : level ts ≡ level_limit
 
--- nothing follows so many of the bytes, which begin a text and are none
+-- nothing follows so many of the bytes, which begin a text and are none, and no other token has ended in them
 pub record IsCut (bytes : List ℕ) (ts : List Span) (k : ℕ) : Type 0 where
   pub within : k ≤ length bytes
   pub alive : BeginsWith (take k bytes) ts
+  pub no_other : NoOtherHasEnded (take k bytes) ts
   pub dead : IsNoTextWith (take k bytes) ts
 
 -- the fault of bytes that may go on, behind these tokens; nothing is said where memory was not found
@@ -90,6 +100,14 @@ IsEndFault fault.NoMemory bytes ts = ⊥
 pub record ReaderState : Type 0 where
   pub reading : Reading
   pub fault : Option JsonFault
+
+-- what a reader keeps: a byte for each bracket around, of which no more are open than may be; between words nothing
+-- else, and of a word no more than what came of it, which exact offsets tell
+pub record KeepsNoMore (r : ReaderState) : Type 0 where
+  pub levels : length r.reading.place.around ≤ level_limit
+  pub between : r.reading.word ≡ None → r.reading.held ≡ []
+  pub word : IfSome r.reading.word (λ _. r.reading.at < 2 ^ 64 - 1
+      → r.reading.from + length r.reading.held ≤ r.reading.at)
 
 -- what it stands for, by whether it has refused
 abbrev pub StandsByFault : Option JsonFault → Reading → List ℕ → List Span → Type 0

@@ -81,7 +81,8 @@ fn string_ended(s: StringState) -> Ended
 /// Takes the bytes out as a text, in the block that they have.
 pub(crate) fn take_text(alloc: Global, held: &mut Vec<u8>) -> Text
     requires { IsUtf8 held.old.items }
-    ensures { result ≡ held.old.items }
+    ensures text { result ≡ held.old.items }
+    ensures empty { held.new.items ≡ [] }
 {
     match String::from_utf8(mem::replace(held, Vec::new(alloc))) {
         Ok(text) => Text::from_string(text),

@@ -1,5 +1,10 @@
 //! Why a text is refused.
 
+ghost use Rattle.std.specs.Prelude.{◌≡◌};
+ghost use Rattle.json_events.specs.declared.fault.JsonFault.TheVariants.{NoMemory as no_memory};
+
+use base::NoMemory;
+
 /// Why a text is refused. Offsets are bytes from the beginning of the text, from 0.
 #[derive(Clone, Copy, Debug, PartialEq, Eq)]
 pub enum JsonFault {
@@ -10,4 +15,12 @@ pub enum JsonFault {
     TooDeep(u64),
     /// No memory was found.
     NoMemory,
+}
+
+impl From<NoMemory> for JsonFault {
+    ghost from_gives = { λ _ f. f ≡ no_memory };
+
+    fn from(_: NoMemory) -> JsonFault {
+        JsonFault::NoMemory
+    }
 }

@@ -13,8 +13,8 @@ ghost use Rattle.json_events.specs.ReadingSteps.{leaves, on_word, begins, wants_
 ghost use Rattle.json_events.specs.ReadingMoves.{lost, takes, moved_at, moved_word, may_come};
 ghost use Rattle.json_events.specs.JsonTokens.{level_in, level_limit};
 ghost use Rattle.base.specs.Saturated.{saturated};
-ghost use Rattle.json_events.specs.ReaderState.{config_at, IsReadable, StandsFor};
-ghost use Rattle.json_events.specs.ReaderAnswers.{mark_seen, StandsOn, IsFaultBehind, IsWholeWith, IsNotWhole, pending_word};
+ghost use Rattle.json_events.specs.ReaderState.{config_at, KeepsLess, IsReadable, StandsFor};
+ghost use Rattle.json_events.specs.ReaderAnswers.{mark_seen, StandsOn, ReadsOn, IsNumberToken, IsFaultBehind, IsWholeWith, IsNotWhole, pending_word};
 ghost use Rattle.json_events.specs.ProgressSeen.{reading_of, word_seen, word_start, HoldsReading, BeganAt, given_seen, started, step_seen, at_behind, IsPlaced, IsBefore, IsEntryFault, IsRefused};
 
 use crate::endings::{ended, string_token, take_text};
@@ -78,6 +78,7 @@ impl Progress {
     /// Puts the word that has just taken a byte.
     fn put(&mut self, word: Begun) -> Option<Spanned>
         requires holds { HoldsWord word.state self.old.held.items }
+        requires kept { KeepsLess (Some word.state) self.old.held.items word.from self.old.at }
         ensures out { (from at : ℕ) → leaves (config_at (reading_of self.new) from at) (given_seen result from at) ≡ on_word (word_seen word self.old.held.items) (spot_seen self.old.spot) from at }
         ensures holds { HoldsReading (reading_of self.new) }
         ensures spot { self.new.spot ≡ self.old.spot }
@@ -91,26 +92,31 @@ impl Progress {
                 self.word = Some(word);
                 None
             }
-            Ended::Quiet => None,
-            Ended::Text => {
-                let text = take_text(self.alloc, &mut self.held);
+            Ended::Quiet => {
+                self.held.clear();
+                None
+            }
+            Ended::Text => Some(Spanned {
+                token: string_token(word.is_key, take_text(self.alloc, &mut self.held)),
+                from: word.from,
+                to: self.at,
+            }),
+            Ended::Gives(token) => {
+                self.held.clear();
                 Some(Spanned {
-                    token: string_token(word.is_key, text),
+                    token,
                     from: word.from,
                     to: self.at,
                 })
             }
-            Ended::Gives(token) => Some(Spanned {
-                token,
-                from: word.from,
-                to: self.at,
-            }),
         }
     }
 
     /// Takes a byte that is not white space, where no word has begun.
+    #[tactic(auto, using(crate::proofs::reading::HeldSizes::first_kept))]
     fn enter(&mut self, b: u8) -> Result<Option<Spanned>, JsonFault>
         requires shallow { level_in self.old.spot.want self.old.spot.around ≤ level_limit }
+        requires empty { self.old.held.items ≡ [] }
         ensures ok { IfOk result (λ s. (at : ℕ) → leaves (config_at (reading_of self.new) at (at + 1)) (given_seen s at (at + 1)) ≡ begins (begin (wants_key self.old.spot.want) b) (spot_seen self.old.spot) at) }
         ensures holds { OnOk result (HoldsReading (reading_of self.new)) }
         ensures shallow { OnOk result (level_in self.new.spot.want self.new.spot.around ≤ level_limit) }
@@ -144,6 +150,7 @@ impl Progress {
     fn take_number(&mut self, from: u64) -> Spanned
         requires { IsUtf8 self.old.held.items }
         ensures mark { mark_seen result.token ≡ digits self.old.held.items }
+        ensures empty { self.new.held.items ≡ [] }
         ensures placed { (result.from ≡ from) × (result.to ≡ self.old.at) }
         ensures word { self.new.word ≡ None }
         ensures spot { self.new.spot ≡ self.old.spot }
@@ -166,6 +173,7 @@ impl Progress {
         ensures ok { IfOk result (λ s. (from at : ℕ) → step_seen s (reading_of self.new) from at ≡ moved_word None (word_seen word self.old.held.items) (spot_seen self.old.spot) from at b) }
         ensures err { IfErr result (λ f. (f ≡ fault.Syntax self.old.at) × ((from at : ℕ) → moved_word None (word_seen word self.old.held.items) (spot_seen self.old.spot) from at b ≡ lost)) }
         ensures word { OnOk result (self.new.word ≡ None) }
+        ensures holds { OnOk result (HoldsReading (reading_of self.new)) }
         ensures spot { self.new.spot ≡ self.old.spot }
         ensures at { IfOk result (λ s. self.new.at ≡ at_behind s self.old.at) }
         ensures placed { IfOk result (λ s. IsPlaced s word.from self.new.at) }
@@ -196,6 +204,7 @@ impl Progress {
     fn go_on(&mut self, word: Begun, next: WordState, b: u8) -> Result<Step, JsonFault>
         requires open { IsOpen word.state }
         requires holds { HoldsWord word.state self.old.held.items }
+        requires kept { KeepsLess (Some word.state) self.old.held.items word.from self.old.at }
         requires next { more_state word.state b ≡ Some next }
         ensures ok { IfOk result (λ s. (from at : ℕ) → step_seen s (reading_of self.new) from at ≡ takes (on_word (record { state = next; is_key = word.is_key; held = held_on word.state self.old.held.items b }) (spot_seen self.old.spot) from (at + 1))) }
         ensures err { IfErr result (λ f. f ≡ fault.NoMemory) }
@@ -290,7 +299,8 @@ impl Progress {
         ensures readable { OnOk result (IsReadable (reading_of self.new)) }
         ensures within { IfOk result (λ fed. fed.taken ≤ length bytes.now) }
         ensures moves { IfOk result (λ fed. (fed.token ≡ None → 0 < fed.taken) × (IsSome fed.token → pending_word (reading_of self.new).word < 2 * fed.taken + pending_word (reading_of self.old).word)) }
-        ensures stands { IfOk result (λ fed. StandsOn (reading_of self.old) (reading_of self.new) (take fed.taken bytes.now) fed.token) }
+        ensures reads { IfOk result (λ fed. ReadsOn (reading_of self.old) (reading_of self.new) bytes.now fed.taken fed.token) }
+        ensures number { IfOk result (λ fed. IfSome fed.token (λ s. IsNumberToken s.token → fed.taken < length bytes.now)) }
         ensures fault { IfErr result (λ f. IsFaultBehind f (reading_of self.old) bytes.now) }
     {
         match self.advance(bytes[0]) {
@@ -317,7 +327,8 @@ impl Progress {
         ensures readable { OnOk result (IsReadable (reading_of self.new)) }
         ensures within { IfOk result (λ fed. fed.taken ≤ length bytes.now) }
         ensures moves { IfOk result (λ fed. (fed.token ≡ None → 0 < fed.taken) × (IsSome fed.token → pending_word (reading_of self.new).word < 2 * fed.taken + pending_word (reading_of self.old).word)) }
-        ensures stands { IfOk result (λ fed. StandsOn (reading_of self.old) (reading_of self.new) (take fed.taken bytes.now) fed.token) }
+        ensures reads { IfOk result (λ fed. ReadsOn (reading_of self.old) (reading_of self.new) bytes.now fed.taken fed.token) }
+        ensures number { IfOk result (λ fed. IfSome fed.token (λ s. IsNumberToken s.token → fed.taken < length bytes.now)) }
         ensures fault { IfErr result (λ f. IsFaultBehind f (reading_of self.old) bytes.now) }
     {
         match self.pass(bytes) {
@@ -337,7 +348,8 @@ impl Progress {
         ensures within { IfOk result (λ fed. fed.taken ≤ length bytes.now) }
         ensures all { IfOk result (λ fed. fed.token ≡ None → fed.taken ≡ length bytes.now) }
         ensures moves { IfOk result (λ fed. IsSome fed.token → pending_word (reading_of self.new).word < 2 * fed.taken + pending_word (reading_of self.old).word) }
-        ensures stands { IfOk result (λ fed. StandsOn (reading_of self.old) (reading_of self.new) (take fed.taken bytes.now) fed.token) }
+        ensures reads { IfOk result (λ fed. ReadsOn (reading_of self.old) (reading_of self.new) bytes.now fed.taken fed.token) }
+        ensures number { IfOk result (λ fed. IfSome fed.token (λ s. IsNumberToken s.token → fed.taken < length bytes.now)) }
         ensures fault { IfErr result (λ f. IsFaultBehind f (reading_of self.old) bytes.now) }
     {
         let mut taken = 0;

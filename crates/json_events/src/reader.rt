@@ -1,8 +1,8 @@
 //! A reader of a text that comes in any pieces.
 
 ghost use Rattle.std.specs.Prelude.{◌≡◌, ◌+◌, ◌*◌, ◌<◌, ◌≤◌, [], length, None, Some, Err, IfOk, IfErr, IfSome, IsSome, OnOk};
-ghost use Rattle.json_events.specs.ReaderState.{Stands};
-ghost use Rattle.json_events.specs.ReaderAnswers.{pending_word, fed_bytes, fed_token, finish_token, GoesOn, IsWholeWith, IsNotWhole, IsFeedFault};
+ghost use Rattle.json_events.specs.ReaderState.{Stands, KeepsNoMore};
+ghost use Rattle.json_events.specs.ReaderAnswers.{pending_word, finish_token, IsNumberToken, GoesOn, FeedsOn, IsWholeWith, IsNotWhole, IsFeedFault};
 
 use crate::fault::JsonFault;
 use crate::progress::Progress;
@@ -46,6 +46,7 @@ impl Reader {
         ensures stands { Stands result [] [] }
         ensures fresh { result.fault ≡ None }
         ensures idle { pending_word result.reading.word ≡ 0 }
+        ensures bounded { KeepsNoMore result }
     {
         Reader {
             progress: Progress::new(alloc),
@@ -56,7 +57,8 @@ impl Reader {
     /// Takes bytes until a token has ended or all are taken. The byte that shows that a number has ended
     /// is not taken: the next call has to begin with it.
     pub fn feed(&mut self, bytes: &[u8]) -> Result<Fed, JsonFault>
-        ensures stands { GoesOn self.old self.new (fed_bytes result bytes.now) (fed_token result) }
+        ensures stands { FeedsOn self.old self.new bytes.now result }
+        ensures number { IfOk result (λ fed. IfSome fed.token (λ s. IsNumberToken s.token → fed.taken < length bytes.now)) }
         ensures fault { self.old.fault ≡ None → IfErr result (λ f. IsFeedFault f self.old bytes.now) }
         ensures within { IfOk result (λ fed. fed.taken ≤ length bytes.now) }
         ensures all { IfOk result (λ fed. fed.token ≡ None → fed.taken ≡ length bytes.now) }
@@ -64,6 +66,7 @@ impl Reader {
         ensures sticky { IfSome self.old.fault (λ f. (result ≡ Err f) × (self.new ≡ self.old)) }
         ensures refused { IfErr result (λ f. self.new.fault ≡ Some f) }
         ensures accepted { OnOk result (self.new.fault ≡ None) }
+        ensures bounded { OnOk result (KeepsNoMore self.new) }
     {
         match self.fault {
             Some(fault) => Err(fault),
@@ -83,6 +86,7 @@ impl Reader {
         ensures sticky { IfSome self.old.fault (λ f. (result ≡ Err f) × (self.new ≡ self.old)) }
         ensures refused { IfErr result (λ f. self.new.fault ≡ Some f) }
         ensures accepted { OnOk result (self.new.fault ≡ None) }
+        ensures bounded { OnOk result (KeepsNoMore self.new) }
     {
         match self.fault {
             Some(fault) => Err(fault),

@@ -1,6 +1,6 @@
 //! The words of a text, byte by byte: signs, literal names and numbers (RFC 8259, sections 2, 3 and 6).
 
-ghost use Rattle.std.specs.Prelude.{◌≡◌, option_map};
+ghost use Rattle.std.specs.Prelude.{◌≡◌, [], option_map};
 ghost use Rattle.std.specs.Prelude.{◌<◌, slice_get, OnOk, List, ℕ, Bool, true, Some, None, if◌then◌else◌};
 ghost use Rattle.json_events.specs.WordSteps.{begin, first_held, after_int, some_digit, letter, is_digit, is_e, is_sign, more_state, is_number, mark_of, kind_state};
 ghost use Rattle.json_events.specs.WordStates.{IsOpen};
@@ -203,9 +203,9 @@ pub(crate) fn more(l: WordState, b: u8) -> Option<WordState>
 
 /// Keeps the first byte of a word, where it is kept.
 pub(crate) fn hold_first(held: &mut Vec<u8>, l: WordState, b: u8) -> Result<(), AllocError>
+    requires { held.old.items ≡ [] }
     ensures { OnOk result (held.new.items ≡ first_held l b) }
 {
-    held.clear();
     if is_number(l) {
         held.push(b)?;
     }

@@ -1,7 +1,8 @@
 //! Answers rows on JSON texts: their tokens and faults, and the strings and numbers that are written.
 //!
-//! `tokens BYTES` in any pieces, `fronts BYTES` of each front, `offsets BYTES`, and `again BYTES ..` for what is told
-//! after a refusal; `string BYTES`, `characters BYTES`, `u64 N` and `i64 N` behind a byte that stays.
+//! `tokens BYTES` in any pieces, `fronts BYTES` of each front, `offsets BYTES`, `again BYTES ..` for what is told
+//! after a refusal, and `text BYTES ..` of a whole text in these pieces; `string BYTES`, `characters BYTES`, `u64 N`
+//! and `i64 N` behind a byte that stays.
 #![tactic(auto)]
 
 mod tokens;
@@ -9,7 +10,7 @@ mod written;
 
 use rows::{Answers, Row, answer_rows};
 use std::alloc::Global;
-use std::io::{self, BufReader, BufWriter, Write};
+use std::io;
 
 /// Answers each row by itself.
 #[derive(Drop)]
@@ -22,6 +23,7 @@ impl Answers for JsonRows {
             "fronts" => tokens::of_fronts(alloc, row),
             "offsets" => tokens::with_offsets(alloc, row),
             "again" => tokens::again(alloc, row),
+            "text" => tokens::whole(alloc, row),
             "string" => written::string(alloc, row),
             "characters" => written::characters(alloc, row),
             "u64" => written::unsigned(alloc, row),
@@ -32,13 +34,5 @@ impl Answers for JsonRows {
 }
 
 fn main(rt: HostRuntime) -> io::Result<()> {
-    let alloc = rt.alloc();
-    let mut out = BufWriter::new(alloc, io::writer(&rt))?;
-    answer_rows(
-        alloc,
-        BufReader::new(alloc, rt.reader())?,
-        &mut out,
-        &mut JsonRows,
-    )?;
-    out.flush()
+    answer_rows(rt.alloc(), rt.reader(), io::writer(&rt), &mut JsonRows)
 }

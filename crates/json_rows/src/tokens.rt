@@ -1,6 +1,7 @@
 //! What the reader tells of a text.
 
-use json_events::{JsonFault, Reader, Token};
+use base::{Blob, List};
+use json_events::{JsonFault, Reader, Token, read_text};
 use rows::{Cut, Row, Stream, shown, told_however_cut, told_in_sizes};
 use std::alloc::Global;
 use std::io;
@@ -183,6 +184,31 @@ pub(crate) fn again(alloc: Global, row: &mut Row) -> io::Result<String> {
         let _whole = feed_piece(alloc, &mut reader, more.as_slice(), &mut out)?;
         out.push_str(", ")?;
         finish(alloc, &mut reader, &mut out)?;
+    }
+    Ok(out)
+}
+
+/// The most pieces of a text in a row.
+const MOST_PIECES: usize = 16;
+
+/// The tokens of a whole text, whose pieces are the words, and then the fault or `end`.
+pub(crate) fn whole(alloc: Global, row: &mut Row) -> io::Result<String> {
+    let mut pieces = Vec::new(alloc);
+    for _ in 0..MOST_PIECES {
+        if row.is_empty() {
+            break;
+        }
+        pieces.push(Blob::from_vec(row.bytes(alloc)?))?;
+    }
+    let mut told = List::new(alloc);
+    let answer = read_text(alloc, pieces.as_slice(), &mut told);
+    let mut out = String::new(alloc);
+    for given in told.as_slice() {
+        put_token(alloc, &mut out, &given.token)?;
+    }
+    match answer {
+        Ok(()) => out.push_str("end")?,
+        Err(fault) => put_fault(alloc, &mut out, fault)?,
     }
     Ok(out)
 }

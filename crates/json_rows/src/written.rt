@@ -2,26 +2,9 @@
 
 use base::Text;
 use json_events::{put_characters, put_i64, put_string, put_u64};
-use rows::{Row, kept, shown};
+use rows::{Row, behind_front, front, kept};
 use std::alloc::Global;
 use std::io;
-
-/// The byte that stands before what is written.
-const FRONT: u8 = b'x';
-
-fn front(alloc: Global) -> io::Result<Vec<u8>> {
-    let mut out = Vec::new(alloc);
-    out.push(FRONT)?;
-    Ok(out)
-}
-
-/// What stands behind the front.
-fn behind(alloc: Global, out: &[u8]) -> io::Result<String> {
-    match out.split_first() {
-        Some((&FRONT, written)) => shown(alloc, written),
-        _ => Ok(String::from_str(alloc, "the front is lost")?),
-    }
-}
 
 /// The text that a word spells.
 fn text_of(alloc: Global, row: &mut Row) -> io::Result<String> {
@@ -36,7 +19,7 @@ pub(crate) fn string(alloc: Global, row: &mut Row) -> io::Result<String> {
     let mut out = front(alloc)?;
     let text = Text::from_string(text_of(alloc, row)?);
     kept(put_string(&mut out, &text))?;
-    behind(alloc, out.as_slice())
+    behind_front(alloc, out.as_slice())
 }
 
 /// A string without its quotation marks.
@@ -44,14 +27,14 @@ pub(crate) fn characters(alloc: Global, row: &mut Row) -> io::Result<String> {
     let mut out = front(alloc)?;
     let text = text_of(alloc, row)?;
     kept(put_characters(&mut out, text.as_str()))?;
-    behind(alloc, out.as_slice())
+    behind_front(alloc, out.as_slice())
 }
 
 /// A number.
 pub(crate) fn unsigned(alloc: Global, row: &mut Row) -> io::Result<String> {
     let mut out = front(alloc)?;
     kept(put_u64(&mut out, row.number()?))?;
-    behind(alloc, out.as_slice())
+    behind_front(alloc, out.as_slice())
 }
 
 /// A number that may be negative.
@@ -61,5 +44,5 @@ pub(crate) fn signed(alloc: Global, row: &mut Row) -> io::Result<String> {
         Ok(number) => kept(put_i64(&mut out, number))?,
         Err(_) => return Err(io::Error::from(io::ErrorKind::InvalidData)),
     }
-    behind(alloc, out.as_slice())
+    behind_front(alloc, out.as_slice())
 }

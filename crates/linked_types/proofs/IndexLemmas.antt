@@ -1,5 +1,5 @@
 -- Maps from indexes of the set to indexes of what is linked.
-use Rattle.std.proofs.Common.{◌≡◌, ◌<◌, ◌≤◌, ◌+◌, ◌-◌, ℕ, cond, List, length, drop, get_or, nat_eq, Some, refl, sym, ap, ◌∙◌, arith, unwrap_or}
+use Rattle.std.proofs.Common.{◌≡◌, ◌<◌, ◌≤◌, ◌+◌, ◌-◌, ℕ, cond, List, length, drop, get_or, nat_eq, Some, sym, ap, ◌∙◌, arith, unwrap_or}
 use Rattle.std.proofs.lemmas.List.{drop_more}
 use Rattle.std.specs.BTreeMap as tree
 use Rattle.std.specs.BTreeMap.{BTreeMap}
@@ -10,7 +10,7 @@ use Rattle.linked_types.specs.LinkedTypes.{linked_enums, linked_messages, linked
 use Rattle.linked_types.specs.IndexSteps.{AreIndexesOf, index_by}
 use Rattle.linked_types.specs.declared.linked_indexes.LinkedIndexes.{LinkedIndexes}
 use Rattle.descriptor_pool.specs.ReachableTypes.{Joined, messages_of, reached_enums}
-use Rattle.schema.specs.declared.types.messages.Types.{Types}
+use Rattle.message_types.specs.declared.messages.Types.{Types}
 
 -- after the item at an index got that index, the map has the index of each item from there on
 pub index_at_more : (indexes : List ℕ) (at : ℕ) (m n : BTreeMap ℕ ℕ) → 0 < at → at ≤ length indexes

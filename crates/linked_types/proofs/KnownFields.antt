@@ -8,19 +8,19 @@ use Rattle.std.specs.List.{list_any}
 use Rattle.std.specs.Option.{option_map_or}
 use Rattle.std.specs.Ordering.{int_eq}
 use Rattle.std.specs.Str.{bytes_eq}
-use Rattle.descriptor_set.specs.declared.file_set.FieldInfo.{FieldInfo}
+use Rattle.descriptors.specs.declared.file_set.FieldInfo.{FieldInfo}
 use Rattle.descriptor_pool.specs.DeclaredTypes.{SetTypes}
 use Rattle.descriptor_pool.specs.FieldTypes.{field_enum, field_message, has_type, is_repeated, value_field}
 use Rattle.descriptor_pool.specs.WellKnownTypes.{are_published, are_published_of, are_seconds_and_nanos, has_repetition, is_published, is_value, known_of, wrapped_type}
 use Rattle.schema.specs.Soundness.{HasKnownFields, HasSecondsAndNanos, IsKnownField, IsWrapped}
-use Rattle.schema.specs.Types.{field_in}
-use Rattle.schema.specs.declared.types.fields.Field.{Field}
-use Rattle.schema.specs.declared.types.fields.Kind.TheVariants.{One as OneOf, Message as MessageOf}
-use Rattle.schema.specs.declared.types.fields.Presence.TheVariants.{Implicit, Explicit}
-use Rattle.schema.specs.declared.types.fields.Scalar.TheVariants.{Int32, Int64, Enumeration}
-use Rattle.schema.specs.declared.types.fields.Shape.TheVariants.{Single, Member, Many, Map}
-use Rattle.schema.specs.declared.types.messages.Known.{Known}
-use Rattle.schema.specs.declared.types.messages.Known.TheVariants.{Plain, Timestamp, Duration, FieldMask, Wrapper}
+use Rattle.message_types.specs.Types.{field_in}
+use Rattle.message_types.specs.declared.fields.Field.{Field}
+use Rattle.message_types.specs.declared.fields.Kind.TheVariants.{One as OneOf, Message as MessageOf}
+use Rattle.message_types.specs.declared.fields.Presence.TheVariants.{Implicit, Explicit}
+use Rattle.message_types.specs.declared.fields.Scalar.TheVariants.{Int32, Int64, Enumeration}
+use Rattle.message_types.specs.declared.fields.Shape.TheVariants.{Single, Member, Many, Map}
+use Rattle.message_types.specs.declared.messages.Known.{Known}
+use Rattle.message_types.specs.declared.messages.Known.TheVariants.{Plain, Timestamp, Duration, FieldMask, Wrapper}
 use Rattle.linked_types.specs.LinkedTypes.{key_scalar, linked_field, linked_kind, linked_shape, natural, plain_shape, real_oneof, scalar_of}
 use Rattle.base.proofs.FirstLemmas.{first_of_one, first_of_two}
 use Rattle.linked_types.proofs.LinkedFirst.{field_in_is}
@@ -68,9 +68,9 @@ not_explicit false = refl
 abbrev IsPlainType : ℕ → Type 0
 IsPlainType n = (int_eq (pos n) (pos 11) ≡ false) × (int_eq (pos n) (pos 14) ≡ false)
 
-module _ (types : SetTypes) (message enum : ℕ → ℕ) (fs : List FieldInfo) where
+module _ (types : SetTypes) (message enum : ℕ → ℕ) (syntax : List ℕ) (fs : List FieldInfo) where
   abbrev link : FieldInfo → Field
-  link f = linked_field types message enum fs f
+  link f = linked_field types message enum syntax fs f
 
   -- what is linked of a published field has its name and form
   form : (name : List ℕ) (number type_number : ℕ) (repeated : Bool) (f : FieldInfo) → IsPublished name number type_number repeated f → IsPlainType type_number

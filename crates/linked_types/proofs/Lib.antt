@@ -9,3 +9,5 @@ pub mod SoundKeys
 pub mod LinkedFirst
 pub mod KnownFields
 pub mod SoundTypes
+-- The names of what is linked are apart.
+pub mod ApartNames

@@ -1,9 +1,9 @@
 -- The first linked field of a number.
-use Rattle.std.proofs.Common.{◌≡◌, ◌==◌, ℕ, Bool, true, false, cond, List, [], ◌∷◌, map, Some, None, option_map, refl}
+use Rattle.std.proofs.Common.{◌≡◌, ◌==◌, ℕ, Bool, true, false, cond, List, [], ◌∷◌, map, Some, option_map, refl}
 use Rattle.std.specs.List.{find}
-use Rattle.descriptor_set.specs.declared.file_set.FieldInfo.{FieldInfo}
-use Rattle.schema.specs.Types.{field_in}
-use Rattle.schema.specs.declared.types.fields.Field.{Field}
+use Rattle.descriptors.specs.declared.file_set.FieldInfo.{FieldInfo}
+use Rattle.message_types.specs.Types.{field_in}
+use Rattle.message_types.specs.declared.fields.Field.{Field}
 
 -- the first linked field of a number is linked of the first whose linked field has it
 pub field_in_is : (link : FieldInfo → Field) (n : ℕ) (fs : List FieldInfo) → field_in (map link fs) n ≡ option_map link (find (λ f. (link f).number == n) fs)

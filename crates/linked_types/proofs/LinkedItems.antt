@@ -5,8 +5,8 @@ use Rattle.std.specs.Option.{option_map_or}
 use Rattle.descriptor_pool.specs.DeclaredNames.{DeclaredEnum, DeclaredMessage}
 use Rattle.descriptor_pool.specs.DeclaredTypes.{SetTypes}
 use Rattle.descriptor_pool.specs.ReachableTypes.{Joined}
-use Rattle.schema.specs.declared.types.enums.EnumType.{EnumType}
-use Rattle.schema.specs.declared.types.messages.MessageType.{MessageType}
+use Rattle.message_types.specs.declared.enums.EnumType.{EnumType}
+use Rattle.message_types.specs.declared.messages.MessageType.{MessageType}
 use Rattle.linked_types.specs.LinkedTypes.{linked_enum, linked_enums, linked_message, linked_messages, index_from, index_in}
 
 index_below : (k : ℕ) (xs : List ℕ) (i : ℕ) → list_any (nat_eq i) xs ≡ true → unwrap_or (index_from k xs i) 0 < k + length xs

@@ -1,6 +1,6 @@
 -- The type of a field that is no message.
-use Rattle.std.proofs.Common.{◌≡◌, Bool, true, false, cond, Some, None, option_and_then, unwrap_or, refl, ap, ◌∙◌, slice_get}
-use Rattle.descriptor_set.specs.declared.file_set.FieldInfo.{FieldInfo}
+use Rattle.std.proofs.Common.{◌≡◌, Bool, true, false, cond, None, option_and_then, unwrap_or, refl, ap, ◌∙◌, slice_get}
+use Rattle.descriptors.specs.declared.file_set.FieldInfo.{FieldInfo}
 use Rattle.descriptor_pool.specs.DeclaredTypes.{SetTypes, message_named}
 use Rattle.descriptor_pool.specs.FieldTypes.{entry_if, entry_value, has_type, is_repeated, map_entry, value_field}
 

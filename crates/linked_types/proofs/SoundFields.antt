@@ -1,23 +1,19 @@
 -- Linked fields are sound.
-use Rattle.std.proofs.Common.{◌≡◌, ◌<◌, ◌&&◌, ◌||◌, ◌==◌, ℕ, pos, Bool, true, false, cond, List, length, Option, Some, None, is_some, not, option_and_then, unwrap_or, refl, sym, ap, subst, ◌∙◌, arith, codes}
-use Rattle.std.proofs.lemmas.Bool.{and_parts, eqb-true, not-true, or_from, or_parts}
-use Rattle.std.proofs.lemmas.Bool.Decides.{Decides-int_eq}
-use Rattle.std.specs.List.{list_any}
+use Rattle.std.proofs.Common.{◌≡◌, ◌<◌, ◌&&◌, ◌||◌, ℕ, Bool, true, false, cond, List, length, Option, Some, None, is_some, not, option_and_then, unwrap_or, refl, sym, ap, subst, ◌∙◌, arith}
+use Rattle.std.proofs.lemmas.Bool.{and_parts, not-true, or_from, or_parts}
 use Rattle.std.specs.Option.{option_map_or}
-use Rattle.std.specs.Ordering.{int_eq}
-use Rattle.std.specs.Str.{bytes_eq}
-use Rattle.descriptor_set.specs.declared.file_set.FieldInfo.{FieldInfo}
+use Rattle.descriptors.specs.declared.file_set.FieldInfo.{FieldInfo}
 use Rattle.descriptor_pool.specs.DeclaredNames.{DeclaredMessage}
 use Rattle.descriptor_pool.specs.DeclaredTypes.{SetTypes, enum_named, message_named}
-use Rattle.descriptor_pool.specs.FieldTypes.{entry_if, entry_value, field_enum, field_message, field_numbered, has_type, is_repeated, map_entry, message_of_field, value_field}
-use Rattle.schema.specs.Soundness.{FitsPacked, FitsShape, IsKeyKind, IsKindIn, IsPackable, IsSoundField}
-use Rattle.schema.specs.declared.types.fields.Kind.TheVariants.{One as OneOf, Message as MessageOf}
-use Rattle.schema.specs.declared.types.fields.Presence.TheVariants.{Implicit, Explicit}
-use Rattle.schema.specs.declared.types.fields.Scalar.{Scalar}
-use Rattle.schema.specs.declared.types.fields.Scalar.TheVariants.{Bytes as BytesOf, Enumeration}
-use Rattle.schema.specs.declared.types.fields.Shape.TheVariants.{Single, Member, Many, Map}
-use Rattle.schema.specs.declared.types.messages.TypeId.{TypeId}
-use Rattle.schema.specs.declared.types.messages.Types.{Types}
+use Rattle.descriptor_pool.specs.FieldTypes.{entry_if, entry_value, field_enum, field_message, has_type, is_repeated, map_entry, message_of_field, value_field}
+use Rattle.schema.specs.Soundness.{FitsPacked, FitsShape, IsKindIn, IsPackable, IsSoundField}
+use Rattle.message_types.specs.declared.fields.Kind.TheVariants.{One as OneOf, Message as MessageOf}
+use Rattle.message_types.specs.declared.fields.Presence.TheVariants.{Implicit, Explicit}
+use Rattle.message_types.specs.declared.fields.Scalar.{Scalar}
+use Rattle.message_types.specs.declared.fields.Scalar.TheVariants.{Enumeration}
+use Rattle.message_types.specs.declared.fields.Shape.TheVariants.{Single, Member, Many, Map}
+use Rattle.message_types.specs.declared.messages.TypeId.{TypeId}
+use Rattle.message_types.specs.declared.messages.Types.{Types}
 use Rattle.linked_types.specs.LinkableTypes.{IsLinkableField, IsLinkableType}
 use Rattle.linked_types.specs.LinkedTypes.{is_explicit, key_scalar, linked_field, linked_kind, linked_shape, natural, plain_shape, real_oneof, scalar_of}
 use Rattle.linked_types.proofs.OwnTypes.{no_entry, own_type}
@@ -81,18 +77,19 @@ module _ (types : SetTypes) (m : DeclaredMessage) (message enum : ℕ → ℕ) (
         k.key e h,
       )
 
-  packed_fits : FitsPacked (linked_field types message enum m.fields f)
+  packed_fits : FitsPacked (linked_field types message enum m.syntax m.fields f)
   packed_fits h =
       let repeated = and_parts (is_repeated f) _ h in
-      let typeless = not-true (has_type 9 f || (has_type 11 f || has_type 12 f)) (and_parts (not (has_type 9 f || (has_type 11 f || has_type 12 f))) _ repeated.1).0 in
-      let text = or_parts (has_type 9 f) (has_type 11 f || has_type 12 f) typeless in
-      let other = or_parts (has_type 11 f) (has_type 12 f) text.1 in
+      let typeless = not-true (has_type 9 f || (has_type 11 f || (has_type 12 f || has_type 10 f))) (and_parts (not (has_type 9 f || (has_type 11 f || (has_type 12 f || has_type 10 f)))) _ repeated.1).0 in
+      let text = or_parts (has_type 9 f) (has_type 11 f || (has_type 12 f || has_type 10 f)) typeless in
+      let other = or_parts (has_type 11 f) (has_type 12 f || has_type 10 f) text.1 in
+      let bytes = or_parts (has_type 12 f) (has_type 10 f) other.1 in
       let own = own_type types f other.0 in
       let t = subst (IsLinkableType types) own k.value in
       let shape : linked_shape types m.fields f ≡ Many =
       ap (λ o. option_map_or (λ e. Map (key_scalar e)) o (plain_shape m.fields f)) (no_entry types f other.0)
       ∙ ap (λ b. cond b Many (option_map_or (λ n. Member n) (real_oneof m.fields f.oneof_index) Single)) repeated.0 in
-      (shape, subst (λ v. IsPackable (linked_kind types message enum v)) (sym own) (pick (has_type 11 f) (has_type 14 f) other.0 other.0 refl t text.0 other.1))
+      (shape, subst (λ v. IsPackable (linked_kind types message enum v)) (sym own) (pick (has_type 11 f) (has_type 14 f) other.0 other.0 refl t text.0 bytes.0))
     where
       pick : (b c : Bool) → b ≡ false → has_type 11 f ≡ false → has_type 14 f ≡ c → IsLinkableType types f → has_type 9 f ≡ false → has_type 12 f ≡ false
           → IsPackable (cond b (MessageOf (record { 0 = message (unwrap_or (field_message types f) 0) })) (cond c (OneOf (Enumeration (record { 0 = enum (unwrap_or (field_enum types f) 0) }))) (OneOf (scalar_of f.type_number))))
@@ -103,7 +100,7 @@ module _ (types : SetTypes) (m : DeclaredMessage) (message enum : ℕ → ℕ) (
           (or_from _ _ t.double (or_from _ _ t.float (or_from _ _ n (or_from _ _ t.group (or_from _ _ a (or_from _ _ s (or_from _ _ g refl)))))))
 
   -- a linked field is sound, where what it names is linked
-  pub field_sound : (linked : Types) → HasTypesIn types message enum linked (value_field types f) → IsSoundField linked (linked_field types message enum m.fields f)
+  pub field_sound : (linked : Types) → HasTypesIn types message enum linked (value_field types f) → IsSoundField linked (linked_field types message enum m.syntax m.fields f)
   field_sound linked within =
       let same : natural f.number ≡ k.number.number = ap natural k.number.is in
       let low = k.number.low in

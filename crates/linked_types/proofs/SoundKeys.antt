@@ -4,14 +4,14 @@ use Rattle.std.proofs.lemmas.Bool.{both_ways, eqb-true}
 use Rattle.std.proofs.lemmas.Bool.Decides.{Decides-int_eq}
 use Rattle.std.specs.List.{AllByRecursion}
 use Rattle.std.specs.Ordering.{int_eq}
-use Rattle.descriptor_set.specs.declared.file_set.FieldInfo.{FieldInfo}
+use Rattle.descriptors.specs.declared.file_set.FieldInfo.{FieldInfo}
 use Rattle.base.proofs.EachLemmas.{each_mapped}
 use Rattle.descriptor_pool.specs.DeclaredTypes.{SetTypes}
 use Rattle.linked_types.specs.LinkableTypes.{IsFieldNumber, IsLinkableField, share_name}
 use Rattle.linked_types.specs.LinkedTypes.{linked_field, natural}
 use Rattle.schema.specs.Apart.{AreApart}
 use Rattle.schema.specs.Soundness.{AreKeysApart, AreNumbersApart, share_key}
-use Rattle.schema.specs.declared.types.fields.Field.{Field}
+use Rattle.message_types.specs.declared.fields.Field.{Field}
 
 -- a number that a field can have is its natural number
 natural_is : (z : ℤ) → IsFieldNumber z → z ≡ pos (natural z)
@@ -27,9 +27,9 @@ other_number a b p q h = pick (nat_eq (natural a) (natural b)) refl
         let same : natural a ≡ natural b = eqb-true (natural a) (natural b) e in
         absurd (both_ways (int_eq a b) h ((Decides-int_eq a b).1 (natural_is a p ∙ ap (λ k. pos k) same ∙ sym (natural_is b q))))
 
-module _ (types : SetTypes) (message enum : ℕ → ℕ) (all : List FieldInfo) where
+module _ (types : SetTypes) (message enum : ℕ → ℕ) (syntax : List ℕ) (all : List FieldInfo) where
   abbrev link : FieldInfo → Field
-  link f = linked_field types message enum all f
+  link f = linked_field types message enum syntax all f
 
   none_again : (f : FieldInfo) (fs : List FieldInfo) → IsFieldNumber f.number → AllByRecursion (IsLinkableField types) fs
       → AllByRecursion (λ z. int_eq f.number z ≡ false) (map (λ (g : FieldInfo). g.number) fs)

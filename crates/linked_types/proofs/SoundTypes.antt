@@ -4,7 +4,7 @@ use Rattle.std.proofs.lemmas.List.{length-map}
 use Rattle.std.proofs.lemmas.List.Elements.{All-contains, All-from_recursion}
 use Rattle.std.specs.List.{AllByRecursion, Contains}
 use Rattle.std.specs.Option.{option_map_or}
-use Rattle.descriptor_set.specs.declared.file_set.FieldInfo.{FieldInfo}
+use Rattle.descriptors.specs.declared.file_set.FieldInfo.{FieldInfo}
 use Rattle.base.proofs.EachLemmas.{each_both, each_mapped, each_weaker}
 use Rattle.descriptor_pool.specs.DeclaredNames.{DeclaredEnum, DeclaredMessage}
 use Rattle.descriptor_pool.specs.DeclaredTypes.{SetTypes, enum_named}
@@ -13,7 +13,7 @@ use Rattle.descriptor_pool.specs.ReachableTypes.{Joined, fields_at, messages_of,
 use Rattle.descriptor_pool.specs.ReachedClosure.{HaveEnums, HaveMessages, IsAmong, IsNamedBy, IsReachClosed}
 use Rattle.descriptor_pool.specs.SetMethods.{BoundMethod}
 use Rattle.schema.specs.Soundness.{IsSound, IsSoundEnum, IsSoundField, IsSoundMessage}
-use Rattle.schema.specs.declared.types.messages.Types.{Types}
+use Rattle.message_types.specs.declared.messages.Types.{Types}
 use Rattle.linked_types.specs.LinkableTypes.{AreLinkable, IsLinkableField, IsLinkableItem, IsSoundAt}
 use Rattle.linked_types.specs.LinkedTypes.{index_in, linked_enum, linked_field, linked_message, linked_types}
 use Rattle.linked_types.proofs.KnownFields.{known_fields}
@@ -65,7 +65,8 @@ module _ (types : SetTypes) where
     abbrev IsNamed : ℕ → Type 0
     IsNamed = IsAmong (reached_enums types js)
 
-    message_in : (i : ℕ) → IsReached i → message i < length linked.messages
+    -- the number of a message that is reached is that of a linked one
+    pub message_in : (i : ℕ) → IsReached i → message i < length linked.messages
     message_in i h =
         let below = index_in_below (messages_of js) i h in
         omega (arith, below, length-map js (λ (j : Joined). j.message), length-linked_messages types message enum js closed.messages_below)
@@ -85,7 +86,7 @@ module _ (types : SetTypes) where
         let own : fields_at types j.message ≡ m.fields = ap (λ o. option_map_or (λ (n : DeclaredMessage). n.fields) o []) e in
         let messages = subst (HaveMessages types IsReached) own c.1.0 in
         let enums = subst (HaveEnums types IsNamed) own c.1.1 in
-        let link = linked_field types message enum m.fields in
+        let link = linked_field types message enum m.syntax m.fields in
         let Named : FieldInfo → Type 0 = λ f. (i : ℕ) → field_message types (value_field types f) ≡ Some i → IsReached i in
         let Valued : FieldInfo → Type 0 = λ f. (i : ℕ) → field_enum types (value_field types f) ≡ Some i → IsNamed i in
         record {
@@ -97,9 +98,9 @@ module _ (types : SetTypes) where
               }))
               m.fields
               (each_both (IsLinkableField types) (λ f. Named f × Valued f) m.fields k.fields (each_both Named Valued m.fields messages enums)));
-          numbers = numbers_apart types message enum m.fields m.fields k.fields k.numbers;
-          keys = keys_apart types message enum m.fields m.fields k.names;
-          known = known_fields types message enum m.fields m.name k.known;
+          numbers = numbers_apart types message enum m.syntax m.fields m.fields k.fields k.numbers;
+          keys = keys_apart types message enum m.syntax m.fields m.fields k.names;
+          known = known_fields types message enum m.syntax m.fields m.name k.known;
         }
 
     enum_reached : AreLinkable types js → (i : ℕ) → IsNamedBy types js i → IsSoundAt types i

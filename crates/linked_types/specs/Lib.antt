@@ -1,4 +1,5 @@
 pub mod IndexSteps
 pub mod LinkableTypes
+pub mod LinkedNames
 pub mod LinkedTypes
 pub mod RealNumbers

@@ -1,21 +1,22 @@
 -- The types that a set declares, linked by numbers (descriptor.proto): message types in the order in which they
 -- are reached, enum types in the order of the first field that names them.
-use Rattle.std.specs.Prelude.{◌+◌, ◌&&◌, ◌||◌, ℕ, ℤ, zero, suc, pos, negsuc, Bool, true, false, List, [], ◌∷◌, map, nat_eq, not, Option, Some, None, is_some, if◌then◌else◌, unwrap_or, slice_get}
+use Rattle.std.specs.Prelude.{◌+◌, ◌&&◌, ◌||◌, ℕ, ℤ, zero, suc, pos, negsuc, Bool, false, List, [], ◌∷◌, map, nat_eq, not, Option, Some, None, is_some, if◌then◌else◌, unwrap_or, slice_get, codes}
 use Rattle.std.specs.List.{flat_map, list_any}
 use Rattle.std.specs.Option.{option_map_or}
 use Rattle.std.specs.Ordering.{int_eq}
-use Rattle.descriptor_set.specs.declared.file_set.FieldInfo.{FieldInfo}
-use Rattle.schema.specs.declared.types.enums.EnumType.{EnumType}
-use Rattle.schema.specs.declared.types.fields.Field.{Field}
-use Rattle.schema.specs.declared.types.fields.Kind.{Kind}
-use Rattle.schema.specs.declared.types.fields.Kind.TheVariants.{One as OneOf, Message as MessageOf}
-use Rattle.schema.specs.declared.types.fields.Presence.TheVariants.{Implicit, Explicit}
-use Rattle.schema.specs.declared.types.fields.Scalar.{Scalar}
-use Rattle.schema.specs.declared.types.fields.Scalar.TheVariants.{Int32, Int64, Uint32, Uint64, Sint32, Sint64, Fixed32, Fixed64, Sfixed32, Sfixed64, Bool as BoolOf, Text as TextOf, Bytes as BytesOf, Enumeration}
-use Rattle.schema.specs.declared.types.fields.Shape.{Shape}
-use Rattle.schema.specs.declared.types.fields.Shape.TheVariants.{Single, Member, Many, Map}
-use Rattle.schema.specs.declared.types.messages.MessageType.{MessageType}
-use Rattle.schema.specs.declared.types.messages.Types.{Types}
+use Rattle.std.specs.Str.{bytes_eq}
+use Rattle.descriptors.specs.declared.file_set.FieldInfo.{FieldInfo}
+use Rattle.message_types.specs.declared.enums.EnumType.{EnumType}
+use Rattle.message_types.specs.declared.fields.Field.{Field}
+use Rattle.message_types.specs.declared.fields.Kind.{Kind}
+use Rattle.message_types.specs.declared.fields.Kind.TheVariants.{One as OneOf, Message as MessageOf}
+use Rattle.message_types.specs.declared.fields.Presence.TheVariants.{Implicit, Explicit}
+use Rattle.message_types.specs.declared.fields.Scalar.{Scalar}
+use Rattle.message_types.specs.declared.fields.Scalar.TheVariants.{Int32, Int64, Uint32, Uint64, Sint32, Sint64, Fixed32, Fixed64, Sfixed32, Sfixed64, Bool as BoolOf, Text as TextOf, Bytes as BytesOf, Enumeration}
+use Rattle.message_types.specs.declared.fields.Shape.{Shape}
+use Rattle.message_types.specs.declared.fields.Shape.TheVariants.{Single, Member, Many, Map}
+use Rattle.message_types.specs.declared.messages.MessageType.{MessageType}
+use Rattle.message_types.specs.declared.messages.Types.{Types}
 use Rattle.descriptor_pool.specs.DeclaredNames.{DeclaredMessage, DeclaredEnum}
 use Rattle.descriptor_pool.specs.DeclaredTypes.{SetTypes}
 use Rattle.descriptor_pool.specs.FieldTypes.{field_enum, field_message, field_numbered, has_type, is_repeated, map_entry, value_field}
@@ -75,10 +76,11 @@ natural (negsuc n) = 0
 abbrev pub real_number : List FieldInfo → ℕ → Option ℕ
 real_number fs i = if is_real fs i then Some (real_before fs i) else None
 
--- the real oneof of a field
+-- the number of the real oneof of an index; none has a negative one
 abbrev pub real_oneof : List FieldInfo → Option ℤ → Option ℕ
 real_oneof fs None = None
-real_oneof fs (Some z) = real_number fs (natural z)
+real_oneof fs (Some (pos i)) = real_number fs i
+real_oneof fs (Some (negsuc n)) = None
 
 -- the scalar of the keys of a map
 abbrev pub key_scalar : DeclaredMessage → Scalar
@@ -96,20 +98,27 @@ linked_shape types fs f = option_map_or (λ e. Map (key_scalar e)) (map_entry ty
 abbrev pub is_explicit : List FieldInfo → FieldInfo → Bool
 is_explicit fs f = not (is_repeated f) && (has_type 11 f || (is_some (real_oneof fs f.oneof_index) || f.proto3_optional))
 
--- a list of numbers, bools or enums that is declared packed, or not declared otherwise
-abbrev pub is_packed : FieldInfo → Bool
-is_packed f = is_repeated f && (not (has_type 9 f || (has_type 11 f || has_type 12 f)) && unwrap_or f.packed true)
+-- lists of a file of this syntax are packed where they do not say it (encoding guide, "Packed Repeated Fields")
+abbrev pub packs_by_default : List ℕ → Bool
+packs_by_default syntax = bytes_eq syntax (codes "proto3")
 
--- the field of a declaration in a message with these fields
-abbrev pub linked_field : SetTypes → (ℕ → ℕ) → (ℕ → ℕ) → List FieldInfo → FieldInfo → Field
-linked_field types message enum fs f = record {
+-- a list of numbers, bools or enums, in a file of this syntax, that is declared packed, or not declared otherwise
+-- where the syntax packs by default: types 9 string, 10 group, 11 message and 12 bytes are none of these
+abbrev pub is_packed : List ℕ → FieldInfo → Bool
+is_packed syntax f =
+    is_repeated f
+    && (not (has_type 9 f || (has_type 11 f || (has_type 12 f || has_type 10 f))) && unwrap_or f.packed (packs_by_default syntax))
+
+-- the field of a declaration in a message with these fields, in a file of this syntax
+abbrev pub linked_field : SetTypes → (ℕ → ℕ) → (ℕ → ℕ) → List ℕ → List FieldInfo → FieldInfo → Field
+linked_field types message enum syntax fs f = record {
   name = f.name;
   json = json_of f;
   number = natural f.number;
   kind = linked_kind types message enum (value_field types f);
   shape = linked_shape types fs f;
   presence = if is_explicit fs f then Explicit else Implicit;
-  packed = is_packed f;
+  packed = is_packed syntax f;
 }
 
 -- the message type of a declared message
@@ -117,7 +126,7 @@ abbrev pub linked_message : SetTypes → (ℕ → ℕ) → (ℕ → ℕ) → Dec
 linked_message types message enum m = record {
   name = m.name;
   known = known_of m.name;
-  fields = map (linked_field types message enum m.fields) m.fields;
+  fields = map (linked_field types message enum m.syntax m.fields) m.fields;
 }
 
 -- the message types of messages that are reached

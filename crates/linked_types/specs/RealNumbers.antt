@@ -1,6 +1,6 @@
 -- The numbers of real oneofs, kept by the oneofs' indexes.
 use Rattle.std.specs.Prelude.{◌≡◌, ◌<◌, ℕ, List, length, Option, Some, slice_get}
-use Rattle.descriptor_set.specs.declared.file_set.FieldInfo.{FieldInfo}
+use Rattle.descriptors.specs.declared.file_set.FieldInfo.{FieldInfo}
 use Rattle.linked_types.specs.LinkedTypes.{real_number}
 
 -- each item of a list is the number of the real oneof of its index

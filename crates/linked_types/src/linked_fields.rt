@@ -1,6 +1,6 @@
 //! Fields of message types (descriptor.proto, FieldDescriptorProto).
 ghost use Rattle.std.specs.Prelude.{◌≡◌, map, IfOk};
-ghost use Rattle.linked_types.specs.LinkedTypes.{is_explicit, is_packed, key_scalar, linked_field, linked_kind, linked_shape, plain_shape, scalar_of};
+ghost use Rattle.linked_types.specs.LinkedTypes.{is_explicit, is_packed, key_scalar, linked_field, linked_kind, linked_shape, packs_by_default, plain_shape, scalar_of};
 ghost use Rattle.linked_types.specs.IndexSteps.{index_by};
 ghost use Rattle.linked_types.specs.RealNumbers.{AreRealNumbers};
 
@@ -8,11 +8,11 @@ use crate::linked_indexes::LinkedIndexes;
 use crate::real_oneofs::{natural, real_numbers, real_oneof};
 use base::{List, NoMemory, Text};
 use descriptor_pool::{DeclaredMessage, SetTypes, field_numbered, is_repeated, json_of};
-use descriptor_set::FieldInfo;
-use descriptor_set::descriptor_numbers::{
-    ENTRY_KEY, TYPE_BOOL, TYPE_BYTES, TYPE_ENUM, TYPE_FIXED32, TYPE_FIXED64, TYPE_INT32,
-    TYPE_INT64, TYPE_MESSAGE, TYPE_SFIXED32, TYPE_SFIXED64, TYPE_SINT32, TYPE_SINT64, TYPE_STRING,
-    TYPE_UINT32, TYPE_UINT64,
+use descriptors::FieldInfo;
+use descriptors::descriptor_numbers::{
+    ENTRY_KEY, TYPE_BOOL, TYPE_BYTES, TYPE_ENUM, TYPE_FIXED32, TYPE_FIXED64, TYPE_GROUP,
+    TYPE_INT32, TYPE_INT64, TYPE_MESSAGE, TYPE_SFIXED32, TYPE_SFIXED64, TYPE_SINT32, TYPE_SINT64,
+    TYPE_STRING, TYPE_UINT32, TYPE_UINT64,
 };
 use schema::{EnumId, Field, Kind, Presence, Scalar, Shape, TypeId};
 use std::alloc::Global;
@@ -103,27 +103,38 @@ fn is_explicit(fields: &[FieldInfo], numbers: &[Option<u32>], field: &FieldInfo)
             || field.proto3_optional)
 }
 
-/// True for a list that is packed.
-fn is_packed(field: &FieldInfo) -> bool
-    ensures { result ≡ is_packed field.now }
+/// True where lists of a file of this syntax are packed if they do not say it.
+fn packs_by_default(syntax: &str) -> bool
+    ensures { result ≡ packs_by_default syntax.now }
+{
+    syntax == "proto3"
+}
+
+/// True for a list that is packed, in a file of this syntax.
+fn is_packed(syntax: &str, field: &FieldInfo) -> bool
+    ensures { result ≡ is_packed syntax.now field.now }
 {
     let number = field.type_number;
     is_repeated(field)
-        && !(number == TYPE_STRING || number == TYPE_MESSAGE || number == TYPE_BYTES)
-        && field.packed.unwrap_or(true)
+        && !(number == TYPE_STRING
+            || number == TYPE_MESSAGE
+            || number == TYPE_BYTES
+            || number == TYPE_GROUP)
+        && field.packed.unwrap_or(packs_by_default(syntax))
 }
 
-/// The field of a declaration in a message with these fields.
+/// The field of a declaration in a message with these fields, in a file of this syntax.
 fn linked_field(
     alloc: Global,
     types: &SetTypes<'_>,
     indexes: &LinkedIndexes,
+    syntax: &str,
     fields: &[FieldInfo],
     numbers: &[Option<u32>],
     field: &FieldInfo,
 ) -> Result<Field, NoMemory>
     requires { AreRealNumbers fields.now numbers.now }
-    ensures { IfOk result (λ f. f ≡ linked_field types.now (index_by indexes.now.messages) (index_by indexes.now.enums) fields.now field.now) }
+    ensures { IfOk result (λ f. f ≡ linked_field types.now (index_by indexes.now.messages) (index_by indexes.now.enums) syntax.now fields.now field.now) }
 {
     let value = (&*types).value_field(field);
     let kind = linked_kind(types, indexes, value);
@@ -139,25 +150,26 @@ fn linked_field(
         kind,
         shape: linked_shape(types, fields, numbers, field),
         presence,
-        packed: is_packed(field),
+        packed: is_packed(syntax, field),
     })
 }
 
-/// The fields of the declarations of a message with so many oneofs.
+/// The fields of the declarations of a message with so many oneofs, in a file of this syntax.
 pub(crate) fn linked_fields(
     alloc: Global,
     types: &SetTypes<'_>,
     indexes: &LinkedIndexes,
+    syntax: &str,
     fields: &[FieldInfo],
     oneofs: u32,
 ) -> Result<List<Field>, NoMemory>
-    ensures { IfOk result (λ fs. fs ≡ map (linked_field types.now (index_by indexes.now.messages) (index_by indexes.now.enums) fields.now) fields.now) }
+    ensures { IfOk result (λ fs. fs ≡ map (linked_field types.now (index_by indexes.now.messages) (index_by indexes.now.enums) syntax.now fields.now) fields.now) }
 {
     let all_numbers = real_numbers(alloc, fields, oneofs)?;
     let numbers = all_numbers.as_slice();
     let mut linked = List::new(alloc);
     for field in fields {
-        linked.push(linked_field(alloc, types, indexes, fields, numbers, field)?)?;
+        linked.push(linked_field(alloc, types, indexes, syntax, fields, numbers, field)?)?;
     }
     Ok(linked)
 }

@@ -9,7 +9,7 @@ ghost use Rattle.descriptor_pool.specs.ReachableTypes.{Joined as JoinedOf, messa
 
 use base::NoMemory;
 use descriptor_pool::{Joined, SetTypes};
-use descriptor_set::FieldInfo;
+use descriptors::FieldInfo;
 use std::alloc::Global;
 use std::collections::{BTreeMap, BTreeSet};
 

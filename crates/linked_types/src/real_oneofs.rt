@@ -8,7 +8,7 @@ ghost use Rattle.linked_types.specs.LinkedTypes.{is_real, makes_real, natural, r
 ghost use Rattle.linked_types.specs.RealNumbers.{AreRealNumbers};
 
 use base::NoMemory;
-use descriptor_set::FieldInfo;
+use descriptors::FieldInfo;
 use std::alloc::Global;
 use std::collections::BTreeSet;
 
@@ -131,7 +131,7 @@ pub(crate) fn natural(number: i32) -> u32
     }
 }
 
-/// The number of the real oneof of a field.
+/// The number of the real oneof of an index; a negative one is that of none.
 pub(crate) fn real_oneof(
     fields: &[FieldInfo],
     numbers: &[Option<u32>],
@@ -140,8 +140,8 @@ pub(crate) fn real_oneof(
     requires { AreRealNumbers fields.now numbers.now }
     ensures { result ≡ real_oneof fields.now index }
 {
-    match index {
-        Some(index) => real_number(fields, numbers, natural(index)),
-        None => None,
+    match u32::try_from(index?) {
+        Ok(index) => real_number(fields, numbers, index),
+        Err(_) => None,
     }
 }

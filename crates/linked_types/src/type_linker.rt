@@ -78,7 +78,14 @@ fn put_message(
             out.push(MessageType {
                 name: Text::copy_of(alloc, declared.name)?,
                 known: known_of(declared.name),
-                fields: linked_fields(alloc, types, indexes, fields, oneofs)?,
+                fields: linked_fields(
+                    alloc,
+                    types,
+                    indexes,
+                    declared.file.syntax.as_str(),
+                    fields,
+                    oneofs,
+                )?,
             })?;
             Ok(())
         }

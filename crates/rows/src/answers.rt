@@ -2,7 +2,7 @@
 
 use crate::row::Row;
 use std::alloc::Global;
-use std::io::{self, BufRead, Write};
+use std::io::{self, BufRead, BufReader, BufWriter, Read, Write};
 
 /// What answers rows, one after another.
 pub trait Answers {
@@ -12,13 +12,14 @@ pub trait Answers {
 
 /// Writes the answer to each line of the input as a line that begins with the label. Lines that are empty
 /// or begin with `#` are left out.
-pub fn answer_rows<R: BufRead + Drop, W: Write, A: Answers>(
+pub fn answer_rows<R: Read + Drop, W: Write + Drop, A: Answers>(
     alloc: Global,
     input: R,
-    out: &mut W,
+    out: W,
     answers: &mut A,
 ) -> io::Result<()> {
-    for line in input.lines(alloc) {
+    let mut out = BufWriter::new(alloc, out)?;
+    for line in BufReader::new(alloc, input)?.lines(alloc) {
         let line = line?;
         if !line.is_empty() && !line.starts_with('#') {
             let mut row = Row::of(line.as_str());
@@ -27,5 +28,5 @@ pub fn answer_rows<R: BufRead + Drop, W: Write, A: Answers>(
             out.write_all(format!(in alloc; "{label} {answer}\n")?.as_bytes())?;
         }
     }
-    Ok(())
+    out.flush()
 }

@@ -7,9 +7,11 @@
 mod answers;
 mod bytes;
 mod cut;
+mod first_byte;
 mod row;
 
 pub use answers::{Answers, answer_rows};
 pub use bytes::{bytes_of, kept, shown};
 pub use cut::{Cut, Stream, told_however_cut, told_in_sizes};
+pub use first_byte::{behind_front, front};
 pub use row::Row;

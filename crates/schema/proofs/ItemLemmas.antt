@@ -8,7 +8,8 @@ use Rattle.schema.specs.declared.value.Item.{Item}
 use Rattle.schema.specs.Pairs.{key_cmp, item_at, with_item, KeysRise, KeysRiseFrom}
 use Rattle.schema.specs.KeyOrder.{key_back, key_congr}
 
-eq_is : (x : Ordering) → is_eq x ≡ true → x ≡ Equal
+-- what is equal is so
+pub eq_is : (x : Ordering) → is_eq x ≡ true → x ≡ Equal
 eq_is Less h = absurd (cc)
 eq_is Equal h = refl
 eq_is Greater h = absurd (cc)

@@ -7,3 +7,5 @@ pub mod KeySearchLemmas
 pub mod ItemLemmas
 -- Validity level by level.
 pub mod LevelLemmas
+-- Maps that answer alike are one.
+pub mod SameItemLemmas

@@ -1,8 +1,14 @@
--- Laws of slots, for every crate: what the entries have after one was replaced or removed.
-use Rattle.std.proofs.Common.{◌≡◌, ◌≢◌, ◌<◌, ◌≤◌, ◌==◌, ℕ, Bool, true, false, List, [], ◌∷◌, cond, Option, Some, None, nat_lt, arith, refl, ap, sym, subst, ◌∙◌}
-use Rattle.std.proofs.lemmas.Bool.{ltb-true, ltb-false, eqb-true, eqb-false}
+-- Laws of slots and entries, for every crate: what there is after one was replaced or removed, and which lists are one.
+use Rattle.std.proofs.Common.{◌≡◌, ◌≢◌, ◌<◌, ◌≤◌, ◌==◌, ℕ, Bool, true, false, List, [], ◌∷◌, cond, Option, Some, None, nat_lt, arith, refl, ap, ap₂, sym, subst, ◌∙◌, inl, inr, ◌⊎◌}
+use Rattle.std.proofs.lemmas.Bool.{ltb-true, ltb-false, eqb-true, eqb-false, eq-eqb, cases_lt, false_from_ne_true}
 use Rattle.std.proofs.lemmas.Bool.Decides.{nat_tests}
+use Rattle.std.specs.declared.cmp.Ordering.{Ordering}
+use Rattle.std.specs.declared.cmp.Ordering.TheVariants.{Less, Equal, Greater}
+use Rattle.std.specs.Ordering.{is_lt}
+use Rattle.schema.specs.declared.key.Key.{Key}
+use Rattle.schema.specs.declared.value.Item.{Item}
 use Rattle.schema.specs.declared.value.Slot.{Slot}
+use Rattle.schema.specs.Pairs.{KeysRise, KeysRiseFrom}
 use Rattle.schema.specs.Value.{with_slot, without_slot, slot_in, RiseFrom}
 
 apart : (m n q : ℕ) (x y z : Option Slot) → m < n → cond (m == q) x (cond (n == q) y z) ≡ cond (n == q) y (cond (m == q) x z)
@@ -84,3 +90,45 @@ rest_step false e es after low l h a = (l, a)
 pub RiseFrom-without_slot : (es : List (ℕ × Slot)) (low n : ℕ) → RiseFrom low es → RiseFrom low (without_slot es n)
 RiseFrom-without_slot [] low n h = tt
 RiseFrom-without_slot (e ∷ es) low n h = rest_step (e.0 == n) e es (without_slot es n) low h.0 h.1 (RiseFrom-without_slot es e.0 n h.1)
+
+-- ---- two lists that rise
+
+head_at : (e : ℕ × Slot) (es : List (ℕ × Slot)) → slot_in (e ∷ es) e.0 ≡ Some e.1
+head_at e es = rw (eq-eqb e.0 e.0 refl) refl
+
+tail_at : (e : ℕ × Slot) (es : List (ℕ × Slot)) (q : ℕ) → e.0 ≢ q → slot_in (e ∷ es) q ≡ slot_in es q
+tail_at e es q ne = rw (false_from_ne_true (e.0 == q) (λ t. ne (eqb-true e.0 q t))) refl
+
+not_some : (o : Option Slot) (s : Slot) → o ≡ None → o ≡ Some s → ⊥
+not_some o s p q = cc
+
+same_pair : (e d : ℕ × Slot) → e.0 ≡ d.0 → Some e.1 ≡ Some d.1 → e ≡ d
+same_pair e d p q = let r : e.1 ≡ d.1 = cc in ap₂ (λ (x : ℕ) (y : Slot). (x, y)) p r
+
+-- two lists that rise and have the same at each number are the same
+pub same_slots : (xs ys : List (ℕ × Slot)) (low : ℕ) → RiseFrom low xs → RiseFrom low ys → ((q : ℕ) → slot_in xs q ≡ slot_in ys q) → xs ≡ ys
+same_slots [] [] low p r h = refl
+same_slots [] (d ∷ ds) low p r h = absurd (not_some (slot_in (d ∷ ds) d.0) d.1 (sym (h d.0)) (head_at d ds))
+same_slots (e ∷ es) [] low p r h = absurd (not_some (slot_in (e ∷ es) e.0) e.1 (h e.0) (head_at e es))
+same_slots (e ∷ es) (d ∷ ds) low p r h =
+    let less : e.0 < d.0 → ⊥ = λ l. not_some (slot_in (e ∷ es) e.0) e.1 (h e.0 ∙ tail_at d ds e.0 (let ne : d.0 ≢ e.0 = omega arith in ne) ∙ slot_in_below ds d.0 e.0 r.1 (omega arith)) (head_at e es) in
+    let more : d.0 < e.0 → ⊥ = λ l. not_some (slot_in (d ∷ ds) d.0) d.1 (sym (h d.0) ∙ tail_at e es d.0 (let ne : e.0 ≢ d.0 = omega arith in ne) ∙ slot_in_below es e.0 d.0 p.1 (omega arith)) (head_at d ds) in
+    let same : e.0 ≡ d.0 = omega (arith, less, more) in
+    let first : e ≡ d = same_pair e d same (sym (head_at e es) ∙ h e.0 ∙ ap (slot_in (d ∷ ds)) same ∙ head_at d ds) in
+    ap₂ (λ (x : ℕ × Slot) (xs : List (ℕ × Slot)). x ∷ xs) first (same_slots es ds e.0 p.1 (subst (λ (x : ℕ). RiseFrom x ds) (sym same) r.1)
+    (λ q. rest_at q same (cases_lt e.0 q)))
+  where
+    rest_at : (q : ℕ) → e.0 ≡ d.0 → (e.0 < q) ⊎ (q ≤ e.0) → slot_in es q ≡ slot_in ds q
+    rest_at q same (inl l) = sym (tail_at e es q (let ne : e.0 ≢ q = omega arith in ne)) ∙ h q ∙ tail_at d ds q (let ne : d.0 ≢ q = omega arith in ne)
+    rest_at q same (inr l) = slot_in_below es e.0 q p.1 l ∙ sym (slot_in_below ds d.0 q r.1 (omega arith))
+
+-- what is less is so
+pub lt_is : (x : Ordering) → is_lt x ≡ true → x ≡ Less
+lt_is Less h = refl
+lt_is Equal h = absurd cc
+lt_is Greater h = absurd cc
+
+-- keys that rise from one rise
+pub rises_on : (low : Key) (es : List (Key × Item)) → KeysRiseFrom low es → KeysRise es
+rises_on low [] h = tt
+rises_on low (e ∷ es) h = h.1

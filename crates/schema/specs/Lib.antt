@@ -3,7 +3,7 @@ pub mod SlotSearch
 pub mod Pairs
 pub mod KeyOrder
 pub mod Layers
-pub mod Types
 pub mod Apart
 pub mod Soundness
 pub mod Validity
+pub mod Extensionality

@@ -3,22 +3,22 @@ use Rattle.std.specs.Prelude.{◌≡◌, ◌≢◌, ◌<◌, ◌≤◌, ◌||◌
 use Rattle.std.specs.List.{AllByRecursion}
 use Rattle.std.specs.Str.{bytes_eq}
 use Rattle.schema.specs.Apart.{AreApart}
-use Rattle.schema.specs.Types.{field_in}
-use Rattle.schema.specs.declared.types.enums.EnumType.{EnumType}
-use Rattle.schema.specs.declared.types.enums.EnumValue.{EnumValue}
-use Rattle.schema.specs.declared.types.fields.Field.{Field}
-use Rattle.schema.specs.declared.types.fields.Kind.{Kind}
-use Rattle.schema.specs.declared.types.fields.Kind.TheVariants.{One, Message}
-use Rattle.schema.specs.declared.types.fields.Presence.{Presence}
-use Rattle.schema.specs.declared.types.fields.Presence.TheVariants.{Implicit}
-use Rattle.schema.specs.declared.types.fields.Scalar.{Scalar}
-use Rattle.schema.specs.declared.types.fields.Scalar.TheVariants.{Int32, Int64, Uint32, Uint64, Bool as BoolOf, Text as TextOf, Bytes as BytesOf, Enumeration}
-use Rattle.schema.specs.declared.types.fields.Shape.{Shape}
-use Rattle.schema.specs.declared.types.fields.Shape.TheVariants.{Single, Member, Many, Map}
-use Rattle.schema.specs.declared.types.messages.Known.{Known}
-use Rattle.schema.specs.declared.types.messages.Known.TheVariants.{Plain, Timestamp, Duration, FieldMask, Wrapper}
-use Rattle.schema.specs.declared.types.messages.MessageType.{MessageType}
-use Rattle.schema.specs.declared.types.messages.Types.{Types}
+use Rattle.message_types.specs.Types.{field_in}
+use Rattle.message_types.specs.declared.enums.EnumType.{EnumType}
+use Rattle.message_types.specs.declared.enums.EnumValue.{EnumValue}
+use Rattle.message_types.specs.declared.fields.Field.{Field}
+use Rattle.message_types.specs.declared.fields.Kind.{Kind}
+use Rattle.message_types.specs.declared.fields.Kind.TheVariants.{One, Message}
+use Rattle.message_types.specs.declared.fields.Presence.{Presence}
+use Rattle.message_types.specs.declared.fields.Presence.TheVariants.{Implicit}
+use Rattle.message_types.specs.declared.fields.Scalar.{Scalar}
+use Rattle.message_types.specs.declared.fields.Scalar.TheVariants.{Int32, Int64, Uint32, Uint64, Bool as BoolOf, Text as TextOf, Bytes as BytesOf, Enumeration}
+use Rattle.message_types.specs.declared.fields.Shape.{Shape}
+use Rattle.message_types.specs.declared.fields.Shape.TheVariants.{Single, Member, Many, Map}
+use Rattle.message_types.specs.declared.messages.Known.{Known}
+use Rattle.message_types.specs.declared.messages.Known.TheVariants.{Plain, Timestamp, Duration, FieldMask, Wrapper}
+use Rattle.message_types.specs.declared.messages.MessageType.{MessageType}
+use Rattle.message_types.specs.declared.messages.Types.{Types}
 
 -- an enum that is named is declared
 abbrev pub IsScalarIn : Types → Scalar → Type 0

@@ -6,21 +6,19 @@
 
 mod copies;
 mod key;
-mod limits;
+pub mod laws;
 mod pairs;
 mod soundness;
-mod types;
 mod validity;
 mod value;
 
 pub use base::{Blob, FieldPair, List, NoMemory, Text};
 pub use key::Key;
-pub use limits::{MAX_FIELD_NUMBER, MAX_LEVELS};
+pub use message_types::{
+    EnumId, EnumType, EnumValue, Field, Kind, Known, MAX_FIELD_NUMBER, MAX_LEVELS, MessageType,
+    Presence, Scalar, Shape, TypeId, Types, find_field,
+};
 pub use pairs::PairIter;
 pub use soundness::{is_packable, sound};
-pub use types::enums::{EnumId, EnumType, EnumValue};
-pub use types::fields::{Field, Kind, Presence, Scalar, Shape};
-pub use types::lookup::find_field;
-pub use types::messages::{Known, MessageType, TypeId, Types};
 pub use validity::{is_default, valid};
 pub use value::{Item, Pairs, Slot, Value};

@@ -13,6 +13,7 @@ use crate::value::{Item, Pairs};
 use base::{List, NoMemory};
 use std::alloc::Global;
 use std::cmp::Ordering;
+use std::iter::ExactSizeIterator;
 use std::marker::Model;
 
 /// The index of a key, or that at which it would stand.
@@ -47,7 +48,8 @@ fn put_entry(entries: &mut List<(Key, Item)>, key: Key, item: Item) -> Result<()
 impl Pairs {
     /// No entries. Takes no memory.
     pub fn new(alloc: Global) -> Pairs
-        ensures { entries_of result ≡ [] }
+        ensures entries { entries_of result ≡ [] }
+        ensures rising { KeysRise (entries_of result) }
     {
         Pairs {
             entries: List::new(alloc),
@@ -56,7 +58,9 @@ impl Pairs {
 
     /// The entries of a list, which has each key once, by rising key. Takes no memory.
     pub fn from_entries(entries: List<(Key, Item)>) -> Pairs
-        ensures { entries_of result ≡ entries }
+        requires { KeysRise entries }
+        ensures entries { entries_of result ≡ entries }
+        ensures rising { KeysRise (entries_of result) }
     {
         Pairs { entries }
     }
@@ -70,7 +74,8 @@ impl Pairs {
 
     /// The keys with their items, by rising key.
     pub fn entries(&self) -> &[(Key, Item)]
-        ensures { result.now ≡ entries_of self.now }
+        ensures entries { result.now ≡ entries_of self.now }
+        ensures rising { KeysRise (entries_of self.now) → KeysRise result.now }
     {
         self.entries.as_slice()
     }
@@ -89,7 +94,8 @@ impl Pairs {
 
     /// An iterator over the entries, by rising key. Takes no memory.
     pub fn iter(&self) -> PairIter<'_>
-        ensures { result ≡ entries_of self.now }
+        ensures entries { result ≡ entries_of self.now }
+        ensures rising { KeysRise (entries_of self.now) → KeysRise result }
     {
         PairIter {
             entries: self.entries.as_slice(),
@@ -142,7 +148,13 @@ impl<'a> Iterator for PairIter<'a> {
     }
 
     fn size_hint(&self) -> (usize, Option<usize>) {
-        let len = self.entries.len();
+        let len = self.len();
         (len, Some(len))
+    }
+}
+
+impl<'a> ExactSizeIterator for PairIter<'a> {
+    fn len(&self) -> usize {
+        self.entries.len()
     }
 }

@@ -4,11 +4,10 @@ ghost use Rattle.std.specs.List.{AllByRecursion};
 ghost use Rattle.std.specs.Option.{option_copied};
 ghost use Rattle.schema.specs.Soundness.{IsScalarIn, IsKindIn, IsKeyKind, IsPackable, is_packable as is_packable_scalar, FitsShape, FitsPacked, IsSoundField, share_key as share_key_of, IsFreeNumber, AreNumbersApart, IsFreeKey, AreKeysApart, IsFreeName, AreNamesApart, HasKnownForm, IsKnownField, IsWrapped, IsValueField, HasSecondsAndNanos, HasKnownFields, IsSoundMessage, IsSoundEnum, IsSound};
 
-use crate::limits::MAX_FIELD_NUMBER;
-use crate::types::enums::{EnumType, EnumValue};
-use crate::types::fields::{Field, Kind, Presence, Scalar, Shape};
-use crate::types::lookup::find_field;
-use crate::types::messages::{Known, MessageType, Types};
+use message_types::{
+    EnumType, EnumValue, Field, Kind, Known, MAX_FIELD_NUMBER, MessageType, Presence, Scalar,
+    Shape, Types, find_field,
+};
 
 /// True where an enum that is named is declared.
 fn is_scalar_in(types: &Types, scalar: Scalar) -> bool

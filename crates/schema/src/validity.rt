@@ -3,7 +3,7 @@ ghost use Rattle.std.specs.Prelude.{◌≡◌, ◌↔◌, IsTrue, nat_eq};
 ghost use Rattle.std.specs.List.{AllByRecursion};
 ghost use Rattle.schema.specs.Apart.{AreApart};
 ghost use Rattle.schema.specs.Pairs.{entries_of, KeysRise};
-ghost use Rattle.schema.specs.Types.{field_in};
+ghost use Rattle.message_types.specs.Types.{field_in};
 ghost use Rattle.schema.specs.Value.{RiseFrom, slots_of};
 ghost use Rattle.schema.specs.Validity.{IsScalarItem, is_default as is_default_item, IsStored, IsItem, IsMapOf, IsSlot, key_item, oneof_of, oneofs_in, IsFreeOneof, AreFieldSlots, valid_within, IsValid};
 ghost use Rattle.schema.specs.declared.value.Item.TheOpen.{Number};
@@ -11,11 +11,8 @@ ghost use Rattle.schema.specs.declared.value.Item.{out-Item};
 ghost use Rattle.schema.specs.declared.value.Slot.{out-Slot};
 
 use crate::key::Key;
-use crate::limits::MAX_LEVELS;
-use crate::types::fields::{Field, Kind, Presence, Scalar, Shape};
-use crate::types::lookup::find_field;
-use crate::types::messages::{TypeId, Types};
 use crate::value::{Item, Pairs, Slot, Value};
+use message_types::{Field, Kind, MAX_LEVELS, Presence, Scalar, Shape, TypeId, Types, find_field};
 
 /// True where the number is one of the scalar kind, in its range.
 fn is_number(scalar: Scalar, number: i128) -> bool

@@ -1,11 +1,11 @@
 -- No two fields without faults have one number.
-use Rattle.std.proofs.Common.{◌≡◌, ◌++◌, ◌||◌, ℤ, Bool, true, false, List, [], ◌∷◌, ℕ, map, refl, sym, subst, ◌∙◌}
+use Rattle.std.proofs.Common.{◌≡◌, ◌++◌, ◌||◌, ℤ, Bool, true, false, List, [], ◌∷◌, ℕ, map, refl, subst, ◌∙◌}
 use Rattle.std.proofs.lemmas.Bool.{both_ways, or_left, or_right}
 use Rattle.std.proofs.lemmas.Bool.Decides.{Decides-int_eq}
 use Rattle.std.proofs.lemmas.List.Folds.{list_any-append}
 use Rattle.std.specs.List.{AllByRecursion, list_any}
 use Rattle.std.specs.Ordering.{int_eq}
-use Rattle.descriptor_set.specs.declared.file_set.FieldInfo.{FieldInfo}
+use Rattle.descriptors.specs.declared.file_set.FieldInfo.{FieldInfo}
 use Rattle.descriptor_pool.specs.DeclaredNames.{DeclaredMessage}
 use Rattle.descriptor_pool.specs.DeclaredTypes.{SetTypes}
 use Rattle.schema.specs.Apart.{AreApart}

@@ -1,19 +1,19 @@
 -- The keys of the entry of a map are of a type that keys can have.
-use Rattle.std.proofs.Common.{◌≡◌, ◌<◌, ◌&&◌, ◌||◌, ◌==◌, ℕ, ℤ, pos, negsuc, Bool, true, false, cond, List, [], ◌∷◌, length, nat_le, not, Some, None, refl, sym, ap, subst, ◌∙◌, ⊎_elim, arith, codes}
+use Rattle.std.proofs.Common.{◌≡◌, ◌<◌, ◌&&◌, ◌||◌, ◌==◌, ℕ, ℤ, pos, negsuc, Bool, true, false, cond, List, [], ◌∷◌, length, nat_le, not, Some, refl, sym, ap, subst, ◌∙◌, ⊎_elim, arith, codes}
 use Rattle.std.proofs.lemmas.Bool.{agree_below_at, and_parts, eqb-true, leb-true, or_cases}
 use Rattle.std.proofs.lemmas.Bool.Decides.{Decides-int_eq}
 use Rattle.std.specs.List.{find, list_any}
 use Rattle.std.specs.Option.{option_map_or}
 use Rattle.std.specs.Ordering.{int_eq}
 use Rattle.std.specs.Str.{bytes_eq}
-use Rattle.descriptor_set.specs.declared.file_set.FieldInfo.{FieldInfo}
+use Rattle.descriptors.specs.declared.file_set.FieldInfo.{FieldInfo}
 use Rattle.base.proofs.FirstLemmas.{first_of_two}
 use Rattle.descriptor_pool.specs.DeclaredNames.{DeclaredMessage}
 use Rattle.descriptor_pool.specs.FieldTypes.{field_numbered}
 use Rattle.linked_types.specs.LinkedTypes.{key_scalar, scalar_of}
 use Rattle.schema.specs.Soundness.{IsKeyKind}
-use Rattle.schema.specs.declared.types.fields.Scalar.{Scalar}
-use Rattle.schema.specs.declared.types.fields.Scalar.TheVariants.{Bytes as BytesOf, Enumeration}
+use Rattle.message_types.specs.declared.fields.Scalar.{Scalar}
+use Rattle.message_types.specs.declared.fields.Scalar.TheVariants.{Bytes as BytesOf, Enumeration}
 use Rattle.set_faults.specs.MessageFaults.{is_entry_field, is_entry_key, is_entry_value, is_key_type, is_lawful_entry, is_type_number}
 
 abbrev is_key : Scalar → Bool

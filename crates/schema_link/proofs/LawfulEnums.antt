@@ -1,5 +1,5 @@
 -- Lawful enums are sound.
-use Rattle.std.proofs.Common.{◌≡◌, ◌≢◌, ◌==◌, Bool, true, List, [], ◌∷◌, length, map, refl, ap, sym, ◌∙◌}
+use Rattle.std.proofs.Common.{◌≡◌, ◌≢◌, ◌==◌, Bool, true, List, [], ◌∷◌, length, map, sym, ◌∙◌}
 use Rattle.std.proofs.lemmas.Bool.{and_parts, eqb-true}
 use Rattle.std.proofs.lemmas.List.{length-map}
 use Rattle.std.proofs.lemmas.Map.Made.{IsDistinct-from_count}
@@ -9,8 +9,8 @@ use Rattle.std.specs.Str.{bytes_eq}
 use Rattle.base.proofs.TextLemmas.{bytes_eq_equiv}
 use Rattle.schema.specs.Apart.{AreApart}
 use Rattle.schema.specs.Soundness.{IsSoundEnum}
-use Rattle.schema.specs.declared.types.enums.EnumType.{EnumType}
-use Rattle.schema.specs.declared.types.enums.EnumValue.{EnumValue}
+use Rattle.message_types.specs.declared.enums.EnumType.{EnumType}
+use Rattle.message_types.specs.declared.enums.EnumValue.{EnumValue}
 use Rattle.set_faults.specs.MessageFaults.{begins_with_zero, is_lawful_enum}
 
 apart : {X : Type 0} (test : X → X → Bool) (xs : List X) → IsDistinct test xs → AreApart test xs

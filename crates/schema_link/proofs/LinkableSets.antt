@@ -1,6 +1,6 @@
 -- A set without faults is linkable, so what is linked of it is sound.
-use Rattle.std.proofs.Common.{◌≡◌, List, [], ℕ, Ok, sym, ap, subst, slice_get, Some}
-use Rattle.descriptor_set.specs.declared.file_set.FileSet.{FileSet}
+use Rattle.std.proofs.Common.{◌≡◌, List, [], ℕ, Ok, sym, ap, subst}
+use Rattle.descriptors.specs.declared.file_set.FileSet.{FileSet}
 use Rattle.base.proofs.EachLemmas.{each_weaker}
 use Rattle.descriptor_pool.specs.DeclaredNames.{DeclaredMessage, declarations}
 use Rattle.descriptor_pool.specs.DeclaredTypes.{SetTypes, types_in}
@@ -30,7 +30,7 @@ message_linkable types path m h =
     }
 
 -- the messages that a set without faults reaches are linkable
-set_linkable : (set : FileSet) → faults set ≡ [] → AreLinkable (types_in (declarations set)) (reachable (types_in (declarations set)) (bound_methods set))
+pub set_linkable : (set : FileSet) → faults set ≡ [] → AreLinkable (types_in (declarations set)) (reachable (types_in (declarations set)) (bound_methods set))
 set_linkable set h =
     let types = types_in (declarations set) in
     each_weaker (λ (j : Joined). joined_faults types j ≡ []) (IsLinkableItem types)

@@ -7,7 +7,7 @@ use Rattle.std.specs.List.{flat_map}
 use Rattle.http_rules.specs.Template.{IsTemplateText}
 use Rattle.http_rules.specs.declared.template.Template.{Template}
 use Rattle.std.specs.Prelude.{codes}
-use Rattle.descriptor_set.specs.declared.file_set.FileSet.{FileSet}
+use Rattle.descriptors.specs.declared.file_set.FileSet.{FileSet}
 use Rattle.base.specs.declared.no_memory.NoMemory.{NoMemory}
 use Rattle.descriptor_pool.specs.DeclaredNames.{Declaration, File, Message, Enum, Service, Extension, is_type}
 use Rattle.descriptor_pool.specs.DeclaredTypes.{SetTypes, enum_in, message_in, types_in}

@@ -1,8 +1,8 @@
 -- What is known of the type of a field without faults.
-use Rattle.std.proofs.Common.{◌≡◌, ◌&&◌, ◌||◌, ℕ, Bool, true, false, cond, List, [], Option, Some, None, is_none, option_and_then, unwrap_or, refl, sym, ap, subst, ◌∙◌, codes, slice_get}
+use Rattle.std.proofs.Common.{◌≡◌, ◌&&◌, ◌||◌, ℕ, Bool, true, false, cond, List, [], Option, Some, None, is_none, option_and_then, refl, sym, ap, ◌∙◌, codes, slice_get}
 use Rattle.std.proofs.lemmas.Bool.{or_parts}
 use Rattle.std.specs.Str.{bytes_eq}
-use Rattle.descriptor_set.specs.declared.file_set.FieldInfo.{FieldInfo}
+use Rattle.descriptors.specs.declared.file_set.FieldInfo.{FieldInfo}
 use Rattle.descriptor_pool.specs.DeclaredNames.{DeclaredEnum}
 use Rattle.descriptor_pool.specs.DeclaredTypes.{SetTypes, enum_named, message_named}
 use Rattle.descriptor_pool.specs.FieldTypes.{has_type}

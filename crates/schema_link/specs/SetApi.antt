@@ -1,19 +1,19 @@
 -- What is linked of a set: so far of one with one binding, a GET of a template with one variable.
 use Rattle.std.specs.Prelude.{◌≡◌, ◌==◌, ◌&&◌, ◌||◌, ◌⊎◌, ℕ, List, [], ◌∷◌, length, map, codes, Option, Some, None, Result, Ok, Err, if◌then◌else◌, unwrap_or}
 use Rattle.std.specs.Str.{bytes_eq}
-use Rattle.descriptor_set.specs.declared.file_set.FileSet.{FileSet}
-use Rattle.descriptor_set.specs.declared.file_set.HttpInfo.{HttpInfo, out-HttpInfo}
-use Rattle.descriptor_set.specs.declared.file_set.PatternInfo.{PatternInfo}
-use Rattle.descriptor_set.specs.declared.file_set.PatternInfo.TheVariants.{Get}
+use Rattle.descriptors.specs.declared.file_set.FileSet.{FileSet}
+use Rattle.descriptors.specs.declared.file_set.HttpInfo.{HttpInfo, out-HttpInfo}
+use Rattle.descriptors.specs.declared.file_set.PatternInfo.{PatternInfo}
+use Rattle.descriptors.specs.declared.file_set.PatternInfo.TheVariants.{Get}
 use Rattle.http_rules.specs.declared.template.Body.TheVariants.{Nothing}
 use Rattle.http_rules.specs.declared.template.Template.{Template}
-use Rattle.schema.specs.Types.{fields_of}
-use Rattle.schema.specs.declared.types.fields.Field.{Field}
-use Rattle.schema.specs.declared.types.fields.Kind.TheVariants.{One as OneOf}
-use Rattle.schema.specs.declared.types.fields.Presence.TheVariants.{Implicit}
-use Rattle.schema.specs.declared.types.fields.Scalar.TheVariants.{Text as TextOf}
-use Rattle.schema.specs.declared.types.fields.Shape.TheVariants.{Single}
-use Rattle.schema.specs.declared.types.messages.TypeId.{TypeId}
+use Rattle.message_types.specs.Types.{fields_of}
+use Rattle.message_types.specs.declared.fields.Field.{Field}
+use Rattle.message_types.specs.declared.fields.Kind.TheVariants.{One as OneOf}
+use Rattle.message_types.specs.declared.fields.Presence.TheVariants.{Implicit}
+use Rattle.message_types.specs.declared.fields.Scalar.TheVariants.{Text as TextOf}
+use Rattle.message_types.specs.declared.fields.Shape.TheVariants.{Single}
+use Rattle.message_types.specs.declared.messages.TypeId.{TypeId}
 use Rattle.descriptor_pool.specs.DeclaredNames.{declarations}
 use Rattle.descriptor_pool.specs.DeclaredTypes.{SetTypes, message_named, types_in}
 use Rattle.linked_types.specs.LinkedTypes.{linked_types, index_in}

@@ -1,13 +1,14 @@
 //! Links a descriptor set.
 ghost use Rattle.std.specs.Prelude.{◌≡◌, IfOk};
 ghost use Rattle.schema.specs.Soundness.{IsSound};
+ghost use Rattle.schema_link.specs.LinkedApi.{IsLinked};
 ghost use Rattle.schema_link.specs.SetApi.{IsLinkOf};
 
 use crate::api::Api;
-use crate::laws::what_is_linked_is_sound;
+use crate::laws::{what_is_linked_is_sound, what_is_linked_of_a_set_is_linked};
 use crate::served_methods::served_api;
 use descriptor_pool::{bound_methods, declarations_of, reachable, types_of};
-use descriptor_set::FileSet;
+use descriptors::FileSet;
 use set_faults::{LinkFault, LinkKind, check_set, fault_at};
 use std::alloc::Global;
 
@@ -17,8 +18,10 @@ use std::alloc::Global;
 pub fn link(alloc: Global, set: &FileSet) -> Result<Api, LinkFault>
     ensures is { IsLinkOf set.now result }
     ensures sound { IfOk result (λ api. IsSound api.types) }
+    ensures linked { IfOk result (λ api. IsLinked api) }
 {
     what_is_linked_is_sound();
+    what_is_linked_of_a_set_is_linked();
     let all_declarations = declarations_of(alloc, set)?;
     let declarations = all_declarations.as_slice();
     let all_methods = bound_methods(alloc, set)?;

@@ -1,11 +1,11 @@
 //! Linking of a set with one binding. A set of any other form is not linked yet.
 ghost use Rattle.std.specs.Prelude.{◌≡◌, ◌<◌, ◌^◌, ◌↔◌, [], ◌∷◌, codes, length, map, IfOk, IsTrue, MatchOption};
 ghost use Rattle.std.specs.Option.{option_copied};
-ghost use Rattle.schema.specs.Types.{fields_of};
+ghost use Rattle.message_types.specs.Types.{fields_of};
 ghost use Rattle.linked_types.specs.LinkedTypes.{index_in};
 ghost use Rattle.descriptor_pool.specs.ReachableTypes.{Joined as JoinedOf, reachable};
 ghost use Rattle.schema_link.specs.SetApi.{HasNoString, IsNumberOf, IsServed, IsServedWith, IsSingleString, field_named, get_of, id_of, only_method};
-ghost use Rattle.schema.specs.declared.types.fields.Field.{Field as FieldOf};
+ghost use Rattle.message_types.specs.declared.fields.Field.{Field as FieldOf};
 ghost use Rattle.schema_link.specs.declared.api.Api.{Api as Linked};
 
 use crate::api::{Api, MethodInfo};
@@ -13,7 +13,7 @@ use crate::laws::a_text_has_one_name;
 use crate::templates::{Named, template_of};
 use base::{List, NoMemory, Text};
 use descriptor_pool::{BoundMethod, Joined, SetTypes};
-use descriptor_set::{HttpInfo, PatternInfo};
+use descriptors::{HttpInfo, PatternInfo};
 use http_rules::{Binding, Body, Template};
 use linked_types::linked_types;
 use schema::{Field, Kind, Presence, Scalar, Shape, TypeId, Types};

@@ -1,5 +1,5 @@
 -- The faults of fields, one after another.
-use Rattle.std.proofs.Common.{◌≡◌, ◌<◌, ◌||◌, ◌+◌, ℕ, ℤ, ◌<ℤ◌, Bool, true, false, cond, List, [], ◌∷◌, ◌++◌, length, map, drop, take, get_or, refl, sym, ap, ◌∙◌, subst, arith}
+use Rattle.std.proofs.Common.{◌≡◌, ◌<◌, ◌||◌, ◌+◌, ℕ, ℤ, Bool, true, false, List, [], ◌∷◌, ◌++◌, length, map, drop, take, get_or, refl, sym, ap, ◌∙◌, subst}
 use Rattle.std.proofs.Math.Bool.{or-false}
 use Rattle.std.proofs.lemmas.List.{drop_more, map_more, take_more, append-nil, append_assoc}
 use Rattle.std.proofs.lemmas.List.Concat.{flat_map-append}
@@ -10,7 +10,7 @@ use Rattle.std.specs.List.{flat_map, list_any}
 use Rattle.std.specs.Ordering.{int_cmp, int_eq}
 use Rattle.std.specs.Str.{bytes_eq}
 use Rattle.base.proofs.NumberSetLemmas.{int_set_more}
-use Rattle.descriptor_set.specs.declared.file_set.FieldInfo.{FieldInfo}
+use Rattle.descriptors.specs.declared.file_set.FieldInfo.{FieldInfo}
 use Rattle.descriptor_pool.specs.DeclaredNames.{DeclaredMessage}
 use Rattle.descriptor_pool.specs.DeclaredTypes.{SetTypes}
 use Rattle.descriptor_pool.specs.JsonFieldNames.{json_of}

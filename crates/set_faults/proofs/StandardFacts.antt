@@ -1,8 +1,8 @@
 -- Worked examples: the faults of small sets, computed.
 use Rattle.std.proofs.Common.{◌≡◌, ℕ, List, [], ◌∷◌, false, pos, refl}
 use Rattle.std.specs.Prelude.{codes, None}
-use Rattle.descriptor_set.specs.declared.file_set.FileInfo.{FileInfo}
-use Rattle.descriptor_set.specs.declared.file_set.RpcInfo.{RpcInfo}
+use Rattle.descriptors.specs.declared.file_set.FileInfo.{FileInfo}
+use Rattle.descriptors.specs.declared.file_set.RpcInfo.{RpcInfo}
 use Rattle.set_faults.specs.SetFaults.{faults}
 use Rattle.set_faults.specs.declared.fault.LinkFault.TheVariants.{At}
 use Rattle.set_faults.specs.declared.fault.LinkKind.TheVariants.{DoubleName, NoRoute}

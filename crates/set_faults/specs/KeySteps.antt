@@ -1,6 +1,6 @@
 -- The keys of fields: their names and JSON names.
 use Rattle.std.specs.Prelude.{ℕ, List, [], ◌∷◌}
-use Rattle.descriptor_set.specs.declared.file_set.FieldInfo.{FieldInfo}
+use Rattle.descriptors.specs.declared.file_set.FieldInfo.{FieldInfo}
 use Rattle.descriptor_pool.specs.JsonFieldNames.{json_of}
 
 -- the keys of a field

@@ -1,5 +1,6 @@
 -- Faults of a descriptor set, as a list: the first of them is the one that counts.
 use Rattle.std.specs.Prelude.{◌≡◌, ◌++◌, ℕ, Bool, List, [], ◌∷◌, codes, Option, Some, None, Result, Ok, Err, if◌then◌else◌}
+use Rattle.base.specs.NoMemoryText.{no_memory_text}
 use Rattle.set_faults.specs.declared.fault.LinkFault.{LinkFault}
 use Rattle.set_faults.specs.declared.fault.LinkFault.TheVariants.{At, NoMemory}
 use Rattle.set_faults.specs.declared.fault.LinkKind.{LinkKind}
@@ -63,4 +64,4 @@ fault_at_text kind name second = kind_text kind ++ (codes " " ++ (name ++ second
 -- the text of a fault
 abbrev pub fault_text : LinkFault → List ℕ
 fault_text (At kind name second) = fault_at_text kind name second
-fault_text NoMemory = codes "out of memory"
+fault_text NoMemory = no_memory_text

@@ -5,8 +5,8 @@ use Rattle.std.specs.Option.{option_map_or}
 use Rattle.std.specs.Ordering.{int_eq}
 use Rattle.std.specs.Set.{distinct_count}
 use Rattle.std.specs.Str.{bytes_eq}
-use Rattle.descriptor_set.specs.declared.file_set.FieldInfo.{FieldInfo}
-use Rattle.schema.specs.declared.types.enums.EnumValue.{EnumValue}
+use Rattle.descriptors.specs.declared.file_set.FieldInfo.{FieldInfo}
+use Rattle.message_types.specs.declared.enums.EnumValue.{EnumValue}
 use Rattle.descriptor_pool.specs.DeclaredNames.{DeclaredMessage, DeclaredEnum}
 use Rattle.descriptor_pool.specs.DeclaredTypes.{SetTypes, enum_named, message_named}
 use Rattle.descriptor_pool.specs.FieldTypes.{has_type, is_repeated, map_entry, value_field}

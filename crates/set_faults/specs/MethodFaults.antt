@@ -2,9 +2,9 @@
 use Rattle.std.specs.Prelude.{◌++◌, ◌&&◌, ◌||◌, ℕ, Bool, List, [], ◌∷◌, length, codes, nat_le, not, Option, Some, None, is_some}
 use Rattle.std.specs.List.{flat_map}
 use Rattle.std.specs.Str.{bytes_eq}
-use Rattle.descriptor_set.specs.declared.file_set.HttpInfo.{HttpInfo, out-HttpInfo}
-use Rattle.descriptor_set.specs.declared.file_set.PatternInfo.{PatternInfo}
-use Rattle.descriptor_set.specs.declared.file_set.PatternInfo.TheVariants.{Custom}
+use Rattle.descriptors.specs.declared.file_set.HttpInfo.{HttpInfo, out-HttpInfo}
+use Rattle.descriptors.specs.declared.file_set.PatternInfo.{PatternInfo}
+use Rattle.descriptors.specs.declared.file_set.PatternInfo.TheVariants.{Custom}
 use Rattle.http_rules.specs.Tokens.{is_short_token}
 use Rattle.descriptor_pool.specs.DeclaredTypes.{SetTypes, message_named}
 use Rattle.set_faults.specs.LinkFaults.{fault_if}

@@ -1,7 +1,7 @@
 -- The faults of a set, in the order in which they count: of its size, of its names, of its methods, of the
 -- messages that the methods reach.
 use Rattle.std.specs.Prelude.{◌++◌, List}
-use Rattle.descriptor_set.specs.declared.file_set.FileSet.{FileSet}
+use Rattle.descriptors.specs.declared.file_set.FileSet.{FileSet}
 use Rattle.descriptor_pool.specs.DeclaredNames.{Declaration, declarations}
 use Rattle.descriptor_pool.specs.DeclaredTypes.{SetTypes, types_in}
 use Rattle.set_faults.specs.MessageFaults.{reached_faults}

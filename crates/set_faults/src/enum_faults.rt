@@ -4,7 +4,7 @@ ghost use Rattle.set_faults.specs.MessageFaults.{begins_with_zero, is_lawful_enu
 
 use crate::counts::distinct_len;
 use base::NoMemory;
-use schema::EnumValue;
+use message_types::EnumValue;
 use std::alloc::Global;
 
 /// True where the first value has the number 0.

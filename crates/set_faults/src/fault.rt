@@ -1,7 +1,6 @@
 //! Why a descriptor set is not linked.
 ghost use Rattle.std.specs.Prelude.{◌≡◌, ◌++◌, ◌∷◌, List};
-ghost use Rattle.std.specs.List.{flat_map};
-ghost use Rattle.set_faults.specs.LinkFaults.{IsFirst, IsFirstOf, fault_at_text, fault_if, kind_text, second_text};
+ghost use Rattle.set_faults.specs.LinkFaults.{IsFirst, IsFirstOf, fault_if, kind_text, second_text};
 
 use base::{NoMemory, Text};
 use std::alloc::{AllocFailed, Global};
@@ -145,15 +144,6 @@ fn before_second(second: &str) -> &'static str
     if second.is_empty() { "" } else { " " }
 }
 
-/// The pieces of the text of a fault of this kind and these names, to be written one after another.
-pub fn fault_texts<'a>(kind: LinkKind, name: &'a str, second: &'a str) -> [&'a str; 5]
-    ensures { flat_map (λ t. t.now) result ≡ fault_at_text kind name.now second.now }
-{
-    let kind: &'a str = kind.name();
-    let between: &'a str = before_second(second);
-    [kind, " ", name, between, second]
-}
-
 impl fmt::Display for LinkFault {
     ghost use Rattle.std.specs.Prelude.{Some};
     ghost use Rattle.set_faults.specs.LinkFaults.{fault_text};
@@ -169,7 +159,7 @@ impl fmt::Display for LinkFault {
                 f.write_str(before_second(second.as_str()))?;
                 f.write_str(second.as_str())
             }
-            LinkFault::NoMemory => f.write_str("out of memory"),
+            LinkFault::NoMemory => fmt::Display::fmt(&NoMemory, f),
         }
     }
 }

@@ -8,11 +8,11 @@ use crate::fault::{LinkFault, LinkKind, fault_at, refuse_if};
 use crate::judged_types::JudgedTypes;
 use base::{NoMemory, Text};
 use descriptor_pool::{DeclaredMessage, SetTypes, is_repeated};
-use descriptor_set::FieldInfo;
-use descriptor_set::descriptor_numbers::{
+use descriptors::FieldInfo;
+use descriptors::descriptor_numbers::{
     LABEL_OPTIONAL, TYPE_DOUBLE, TYPE_ENUM, TYPE_FLOAT, TYPE_GROUP, TYPE_MESSAGE,
 };
-use schema::MAX_FIELD_NUMBER;
+use message_types::MAX_FIELD_NUMBER;
 use std::alloc::Global;
 use std::collections::BTreeSet;
 

@@ -7,7 +7,7 @@ ghost use Rattle.descriptor_pool.specs.FieldTypes.{value_field};
 use crate::enum_faults::is_lawful_enum;
 use base::NoMemory;
 use descriptor_pool::{DeclaredEnum, SetTypes};
-use descriptor_set::FieldInfo;
+use descriptors::FieldInfo;
 use std::alloc::Global;
 use std::marker::Model;
 

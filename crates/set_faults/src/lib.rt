@@ -15,5 +15,5 @@ mod message_faults;
 mod method_faults;
 mod names;
 
-pub use fault::{LinkFault, LinkKind, fault_at, fault_texts};
+pub use fault::{LinkFault, LinkKind, fault_at};
 pub use judging::check_set;

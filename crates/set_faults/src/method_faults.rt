@@ -1,13 +1,13 @@
 //! Faults of methods that have an annotation (google/api/http.proto).
 ghost use Rattle.std.specs.Prelude.{◌≡◌};
 ghost use Rattle.std.specs.List.{flat_map};
-ghost use Rattle.descriptor_set.specs.declared.file_set.HttpInfo.{out-HttpInfo};
+ghost use Rattle.descriptors.specs.declared.file_set.HttpInfo.{out-HttpInfo};
 ghost use Rattle.set_faults.specs.LinkFaults.{IsFirstOf};
 ghost use Rattle.set_faults.specs.MethodFaults.{additional_faults, is_method_kind, method_faults, methods_faults, pattern_faults, rule_faults, unknown_message};
 
 use crate::fault::{LinkFault, LinkKind, fault_at};
 use descriptor_pool::{BoundMethod, SetTypes};
-use descriptor_set::{HttpInfo, PatternInfo};
+use descriptors::{HttpInfo, PatternInfo};
 use http_rules::is_short_token;
 use std::alloc::Global;
 

@@ -22,7 +22,7 @@ use contents::{read_answer, told_set};
 use linked::{link_answer, shape_answer};
 use rows::{Answers, Row, answer_rows};
 use std::alloc::Global;
-use std::io::{self, BufReader, BufWriter, Write};
+use std::io;
 use texts::{kind_answer, link_fault_answer, no_memory_answer, set_fault_answer};
 
 /// What answers rows.
@@ -45,9 +45,5 @@ impl Answers for Sets {
 }
 
 fn main(rt: HostRuntime) -> io::Result<()> {
-    let alloc = rt.alloc();
-    let mut out = BufWriter::new(alloc, io::writer(&rt))?;
-    let input = BufReader::new(alloc, rt.reader())?;
-    answer_rows(alloc, input, &mut out, &mut Sets)?;
-    out.flush()
+    answer_rows(rt.alloc(), rt.reader(), io::writer(&rt), &mut Sets)
 }

@@ -1,3 +1,4 @@
 pub mod StatusTables
 pub mod ErrorBody
 pub mod GrpcMessage
+pub mod ErrorText

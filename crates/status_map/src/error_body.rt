@@ -5,7 +5,9 @@ ghost use Rattle.base.specs.Extends.{Extends};
 ghost use Rattle.json_events.specs.AppendedBytes.{Appends};
 ghost use Rattle.json_events.specs.StringOutput.{escaped};
 ghost use Rattle.status_map.specs.ErrorBody.{error_body, replacement_for, IsErrorBody};
+ghost use Rattle.status_map.specs.ErrorText.{IsErrorText};
 
+use crate::laws::error_bodies_are_texts_of_an_object;
 use base::{NoMemory, cut_back};
 use json_events::laws::written_texts_mean_their_values;
 use json_events::{put_characters, put_u64};
@@ -16,6 +18,7 @@ use json_events::{put_characters, put_u64};
 pub fn put_error(out: &mut Vec<u8>, code: u8, text: &[u8]) -> Result<(), NoMemory>
     ensures ok { OnOk result (out.new.items ≡ out.old.items ++ error_body code (utf8_lossy text.now)) }
     ensures means { OnOk result (Appends (IsErrorBody code (utf8_lossy text.now)) out.old.items out.new.items) }
+    ensures object { OnOk result (Appends (IsErrorText code (utf8_lossy text.now)) out.old.items out.new.items) }
     ensures err { OnErr result (out.new.items ≡ out.old.items) }
 {
     let len = out.len();
@@ -27,9 +30,11 @@ pub fn put_error(out: &mut Vec<u8>, code: u8, text: &[u8]) -> Result<(), NoMemor
 fn write_error(out: &mut Vec<u8>, code: u8, text: &[u8]) -> Result<(), NoMemory>
     ensures ok { OnOk result (out.new.items ≡ out.old.items ++ error_body code (utf8_lossy text.now)) }
     ensures means { OnOk result (Appends (IsErrorBody code (utf8_lossy text.now)) out.old.items out.new.items) }
+    ensures object { OnOk result (Appends (IsErrorText code (utf8_lossy text.now)) out.old.items out.new.items) }
     ensures err { OnErr result (Extends out.old.items out.new.items) }
 {
     written_texts_mean_their_values();
+    error_bodies_are_texts_of_an_object();
     out.extend_from_slice(b"{\"code\":")?;
     put_u64(out, u64::from(code))?;
     out.extend_from_slice(b",\"message\":\"")?;

@@ -4,31 +4,14 @@
 //! `error CODE BYTES`, each behind a byte that stays.
 #![tactic(auto)]
 
-use rows::{Answers, Row, answer_rows, kept, shown};
+use rows::{Answers, Row, answer_rows, behind_front, front, kept, shown};
 use status_map::{code_of_http, code_of_reset, http_of, put_error, put_message, read_message};
 use std::alloc::Global;
-use std::io::{self, BufReader, BufWriter, Write};
-
-/// The byte that stands before what is written.
-const FRONT: u8 = b'x';
+use std::io;
 
 /// Answers each row by itself.
 #[derive(Drop)]
 struct StatusRows;
-
-fn front(alloc: Global) -> io::Result<Vec<u8>> {
-    let mut out = Vec::new(alloc);
-    out.push(FRONT)?;
-    Ok(out)
-}
-
-/// What stands behind the front.
-fn behind(alloc: Global, out: &[u8]) -> io::Result<String> {
-    match out.split_first() {
-        Some((&FRONT, written)) => shown(alloc, written),
-        _ => Ok(String::from_str(alloc, "the front is lost")?),
-    }
-}
 
 /// The HTTP status of a code.
 fn http(alloc: Global, row: &mut Row) -> io::Result<String> {
@@ -60,7 +43,7 @@ fn put(alloc: Global, row: &mut Row) -> io::Result<String> {
     let mut out = front(alloc)?;
     let text = row.bytes(alloc)?;
     kept(put_message(&mut out, text.as_slice()))?;
-    behind(alloc, out.as_slice())
+    behind_front(alloc, out.as_slice())
 }
 
 /// The JSON body of an error.
@@ -69,7 +52,7 @@ fn error(alloc: Global, row: &mut Row) -> io::Result<String> {
     let code = row.number_u8()?;
     let text = row.bytes(alloc)?;
     kept(put_error(&mut out, code, text.as_slice()))?;
-    behind(alloc, out.as_slice())
+    behind_front(alloc, out.as_slice())
 }
 
 impl Answers for StatusRows {
@@ -87,13 +70,5 @@ impl Answers for StatusRows {
 }
 
 fn main(rt: HostRuntime) -> io::Result<()> {
-    let alloc = rt.alloc();
-    let mut out = BufWriter::new(alloc, io::writer(&rt))?;
-    answer_rows(
-        alloc,
-        BufReader::new(alloc, rt.reader())?,
-        &mut out,
-        &mut StatusRows,
-    )?;
-    out.flush()
+    answer_rows(rt.alloc(), rt.reader(), io::writer(&rt), &mut StatusRows)
 }

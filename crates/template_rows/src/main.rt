@@ -11,7 +11,7 @@ mod commands;
 use commands::{put_capture, put_fault_text, put_parts, put_printed, put_route};
 use rows::{Answers, Row, answer_rows};
 use std::alloc::Global;
-use std::io::{self, BufReader, BufWriter, Write};
+use std::io;
 
 /// What answers rows.
 #[derive(Drop)]
@@ -36,9 +36,5 @@ impl Answers for Templates {
 }
 
 fn main(rt: HostRuntime) -> io::Result<()> {
-    let alloc = rt.alloc();
-    let mut out = BufWriter::new(alloc, io::writer(&rt))?;
-    let input = BufReader::new(alloc, rt.reader())?;
-    answer_rows(alloc, input, &mut out, &mut Templates)?;
-    out.flush()
+    answer_rows(rt.alloc(), rt.reader(), io::writer(&rt), &mut Templates)
 }

@@ -5,7 +5,7 @@ use Rattle.std.specs.List.{flat_map}
 use Rattle.std.specs.Int.{w32, w64, cast_unsigned, to_le_bytes}
 use Rattle.schema.specs.Layers.{ItemLayer, SlotLayer}
 use Rattle.schema.specs.Pairs.{entries_of}
-use Rattle.schema.specs.Types.{field_in, fields_of}
+use Rattle.message_types.specs.Types.{field_in, fields_of}
 use Rattle.schema.specs.Value.{slots_of}
 use Rattle.schema.specs.declared.value.Item.TheOpen.{Number, Truth, Text, Bytes, Message, One, Many, Pairs as Entries}
 use Rattle.schema.specs.declared.value.Item.{out-Item, Item}
@@ -13,15 +13,15 @@ use Rattle.schema.specs.declared.key.Key.{Key}
 use Rattle.schema.specs.declared.key.Key.TheVariants.{Number as NumberKey, Truth as TruthKey, Text as TextKey}
 use Rattle.schema.specs.declared.value.Slot.{out-Slot, Slot}
 use Rattle.schema.specs.declared.value.Value.{Value}
-use Rattle.schema.specs.declared.types.fields.Field.{Field}
-use Rattle.schema.specs.declared.types.fields.Kind.{Kind}
-use Rattle.schema.specs.declared.types.fields.Kind.TheVariants.{One as OneOf, Message as MessageOf}
-use Rattle.schema.specs.declared.types.fields.Scalar.{Scalar}
-use Rattle.schema.specs.declared.types.fields.Scalar.TheVariants.{Sint32, Sint64, Fixed32, Fixed64, Sfixed32, Sfixed64}
-use Rattle.schema.specs.declared.types.fields.Shape.{Shape}
-use Rattle.schema.specs.declared.types.fields.Shape.TheVariants.{Map as MapOf}
-use Rattle.schema.specs.declared.types.messages.TypeId.{TypeId}
-use Rattle.schema.specs.declared.types.messages.Types.{Types}
+use Rattle.message_types.specs.declared.fields.Field.{Field}
+use Rattle.message_types.specs.declared.fields.Kind.{Kind}
+use Rattle.message_types.specs.declared.fields.Kind.TheVariants.{One as OneOf, Message as MessageOf}
+use Rattle.message_types.specs.declared.fields.Scalar.{Scalar}
+use Rattle.message_types.specs.declared.fields.Scalar.TheVariants.{Sint32, Sint64, Fixed32, Fixed64, Sfixed32, Sfixed64}
+use Rattle.message_types.specs.declared.fields.Shape.{Shape}
+use Rattle.message_types.specs.declared.fields.Shape.TheVariants.{Map as MapOf}
+use Rattle.message_types.specs.declared.messages.TypeId.{TypeId}
+use Rattle.message_types.specs.declared.messages.Types.{Types}
 use Rattle.wire_records.specs.RecordBytes.{tag, delimited}
 use Rattle.wire_records.specs.Varint.{varint}
 use Rattle.wire_format.specs.Scalars.{scalar_wire}

@@ -1,8 +1,8 @@
 -- Bytes and values: which value bytes have as a message of a type, in at most 100 levels.
 use Rattle.std.specs.Prelude.{◌≡◌, ℕ, List, Option, Some, None, Result, Ok, Err}
-use Rattle.schema.specs.Types.{fields_of}
-use Rattle.schema.specs.declared.types.messages.TypeId.{TypeId}
-use Rattle.schema.specs.declared.types.messages.Types.{Types}
+use Rattle.message_types.specs.Types.{fields_of}
+use Rattle.message_types.specs.declared.messages.TypeId.{TypeId}
+use Rattle.message_types.specs.declared.messages.Types.{Types}
 use Rattle.schema.specs.declared.value.Value.{Value}
 use Rattle.wire_format.specs.FieldValues.{meaning_within}
 use Rattle.wire_format.specs.WireFaults.{Fault, first_fault}

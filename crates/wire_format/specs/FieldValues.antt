@@ -5,20 +5,20 @@ use Rattle.std.specs.List.{flat_map, filter_map, list_any}
 use Rattle.std.specs.Ordering.{is_eq, is_lt}
 use Rattle.schema.specs.Layers.{ItemLayer}
 use Rattle.schema.specs.Pairs.{key_cmp}
-use Rattle.schema.specs.Types.{field_in, fields_of}
+use Rattle.message_types.specs.Types.{field_in, fields_of}
 use Rattle.schema.specs.Validity.{is_default}
 use Rattle.schema.specs.Value.{with_slot}
 use Rattle.schema.specs.declared.key.Key.{Key}
 use Rattle.schema.specs.declared.key.Key.TheVariants.{Number as NumberKey, Truth as TruthKey, Text as TextKey}
-use Rattle.schema.specs.declared.types.fields.Field.{Field}
-use Rattle.schema.specs.declared.types.fields.Kind.{Kind}
-use Rattle.schema.specs.declared.types.fields.Kind.TheVariants.{One as OneOf, Message as MessageOf}
-use Rattle.schema.specs.declared.types.fields.Presence.{Presence}
-use Rattle.schema.specs.declared.types.fields.Presence.TheVariants.{Implicit, Explicit}
-use Rattle.schema.specs.declared.types.fields.Scalar.{Scalar}
-use Rattle.schema.specs.declared.types.fields.Shape.{Shape}
-use Rattle.schema.specs.declared.types.fields.Shape.TheVariants.{Member, Many as ManyOf, Map as MapOf}
-use Rattle.schema.specs.declared.types.messages.Types.{Types}
+use Rattle.message_types.specs.declared.fields.Field.{Field}
+use Rattle.message_types.specs.declared.fields.Kind.{Kind}
+use Rattle.message_types.specs.declared.fields.Kind.TheVariants.{One as OneOf, Message as MessageOf}
+use Rattle.message_types.specs.declared.fields.Presence.{Presence}
+use Rattle.message_types.specs.declared.fields.Presence.TheVariants.{Implicit, Explicit}
+use Rattle.message_types.specs.declared.fields.Scalar.{Scalar}
+use Rattle.message_types.specs.declared.fields.Shape.{Shape}
+use Rattle.message_types.specs.declared.fields.Shape.TheVariants.{Member, Many as ManyOf, Map as MapOf}
+use Rattle.message_types.specs.declared.messages.Types.{Types}
 use Rattle.schema.specs.declared.value.Item.TheOpen.{Number, Truth, Text, Message, One, Many, Pairs as Entries}
 use Rattle.schema.specs.declared.value.Item.{roll-Item, Item}
 use Rattle.schema.specs.declared.value.Slot.{roll-Slot, Slot}
@@ -55,9 +55,9 @@ sized_of (sized bs) = Some bs
 sized_of _ = None
 
 -- a payload counts for a singular field of this kind
-abbrev pub counts : Kind → Payload → Bool
-counts (OneOf s) p = is_some (scalar_of s p)
-counts (MessageOf id) p = is_some (sized_of p)
+abbrev pub counts : Types → Kind → Payload → Bool
+counts types (OneOf s) p = is_some (scalar_of types s p)
+counts types (MessageOf id) p = is_some (sized_of p)
 
 -- a shape is that of a member of this oneof
 abbrev pub in_oneof : ℕ → Shape → Bool
@@ -65,18 +65,18 @@ in_oneof k (Member j) = j == k
 in_oneof k _ = false
 
 -- a payload counts for a field, and that is a member of this oneof
-abbrev pub counts_in : ℕ → Option Field → Payload → Bool
-counts_in k None p = false
-counts_in k (Some f) p = in_oneof k f.shape && counts f.kind p
+abbrev pub counts_in : Types → ℕ → Option Field → Payload → Bool
+counts_in types k None p = false
+counts_in types k (Some f) p = in_oneof k f.shape && counts types f.kind p
 
 -- a record sets another member of the oneof than number `n`
-abbrev pub sets_other : List Field → ℕ → ℕ → Record → Bool
-sets_other fields k n r = if r.number == n then false else counts_in k (field_in fields r.number) r.payload
+abbrev pub sets_other : Types → List Field → ℕ → ℕ → Record → Bool
+sets_other types fields k n r = if r.number == n then false else counts_in types k (field_in fields r.number) r.payload
 
 -- the records that count for a field: of a member of a oneof those behind the last that sets another member
-abbrev pub counted : List Field → ℕ → Shape → List Record → List Record
-counted fields n (Member k) rs = since (sets_other fields k n) rs
-counted fields n _ rs = rs
+abbrev pub counted : Types → List Field → ℕ → Shape → List Record → List Record
+counted types fields n (Member k) rs = since (sets_other types fields k n) rs
+counted types fields n _ rs = rs
 
 -- a singular slot
 abbrev pub one : ItemLayer → Slot
@@ -92,10 +92,10 @@ abbrev pub many : List ItemLayer → Option Slot
 many [] = None
 many (i ∷ is) = Some (roll-Slot (Many (map roll-Item (i ∷ is))))
 
--- what bytes mean one level further in: as a message with these fields, and as an entry of a map
+-- what bytes mean one level further in: as a message with these fields, and as an entry of a map, if it counts
 pub record Inner : Type 0 where
   pub message : List Field → List ℕ → Value
-  pub entry : Scalar → Kind → List ℕ → Key × Item
+  pub entry : Scalar → Kind → List ℕ → Option (Key × Item)
 
 -- a message is what its payloads, joined, mean
 abbrev pub message_item : Inner → List Field → List (List ℕ) → Option ItemLayer
@@ -104,19 +104,19 @@ message_item inner fields (p ∷ ps) = Some (Message (inner.message fields (flat
 
 -- the item of a singular field by its payloads: of a scalar the last
 abbrev pub singular : Inner → Types → Kind → List Payload → Option ItemLayer
-singular inner types (OneOf s) ps = last_of (filter_map (scalar_of s) ps)
+singular inner types (OneOf s) ps = last_of (filter_map (scalar_of types s) ps)
 singular inner types (MessageOf id) ps = message_item inner (fields_of types id) (filter_map sized_of ps)
 
 -- the items of one scalar payload of a list, packed or not
-abbrev pub scalar_items : Scalar → Payload → List ItemLayer
-scalar_items s (sized bs) = if is_packable s then elements s 0 bs else option_to_list (scalar_of s (sized bs))
-scalar_items s p = option_to_list (scalar_of s p)
+abbrev pub scalar_items : Types → Scalar → Payload → List ItemLayer
+scalar_items types s (sized bs) = if is_packable s then elements types s 0 bs else option_to_list (scalar_of types s (sized bs))
+scalar_items types s p = option_to_list (scalar_of types s p)
 
 -- the items of one payload of a list
 abbrev pub items_of : Inner → Types → Kind → Payload → List ItemLayer
 items_of inner types (MessageOf id) (sized bs) = Message (inner.message (fields_of types id) bs) ∷ []
 items_of inner types (MessageOf id) _ = []
-items_of inner types (OneOf s) p = scalar_items s p
+items_of inner types (OneOf s) p = scalar_items types s p
 
 -- an item as a key
 abbrev pub key_of : ItemLayer → Key
@@ -126,14 +126,14 @@ key_of (Text t) = TextKey t
 key_of _ = NumberKey (pos 0)
 
 -- the default of a kind; of a message the empty one
-abbrev pub default_item : Kind → ItemLayer
-default_item (OneOf s) = default_of s
-default_item (MessageOf id) = Message (record { fields = [] })
+abbrev pub default_item : Types → Kind → ItemLayer
+default_item types (OneOf s) = default_of types s
+default_item types (MessageOf id) = Message (record { fields = [] })
 
 -- an entry of a map by its records: key 1 and value 2, a missing part its default
-abbrev pub entry_by : Inner → Types → Scalar → Kind → List Record → Key × Item
+abbrev pub entry_by : Inner → Types → Scalar → Kind → List Record → Option (Key × Item)
 entry_by inner types s kind rs =
-    (key_of (unwrap_or (singular inner types (OneOf s) (payloads 1 rs)) (default_of s)), roll-Item (unwrap_or (singular inner types kind (payloads 2 rs)) (default_item kind)))
+    Some (key_of (unwrap_or (singular inner types (OneOf s) (payloads 1 rs)) (default_of types s)), roll-Item (unwrap_or (singular inner types kind (payloads 2 rs)) (default_item types kind)))
 
 -- an entry where its key belongs, unless the key has one
 abbrev pub if_new : Key × Item → List (Key × Item) → List (Key × Item)
@@ -157,12 +157,12 @@ pairs es = entries_slot (last_entries es)
 -- the slot of a field by the payloads that count for it
 abbrev pub slot_by : Inner → Types → Presence → Shape → Kind → List Payload → Option Slot
 slot_by inner types presence ManyOf kind ps = many (flat_map (items_of inner types kind) ps)
-slot_by inner types presence (MapOf s) kind ps = pairs (map (inner.entry s kind) (filter_map sized_of ps))
+slot_by inner types presence (MapOf s) kind ps = pairs (filter_map (inner.entry s kind) (filter_map sized_of ps))
 slot_by inner types presence _ kind ps = option_and_then (stored presence) (singular inner types kind ps)
 
 -- the slot of a field number by the records of a message
 abbrev pub slot_of : Inner → Types → List Field → List Record → ℕ → Option Slot
-slot_of inner types fields rs n = option_and_then (λ f. slot_by inner types f.presence f.shape f.kind (payloads n (counted fields n f.shape rs))) (field_in fields n)
+slot_of inner types fields rs n = option_and_then (λ f. slot_by inner types f.presence f.shape f.kind (payloads n (counted types fields n f.shape rs))) (field_in fields n)
 
 -- the list with a slot, where there is one
 abbrev pub with_some : List (ℕ × Slot) → ℕ → Option Slot → List (ℕ × Slot)
@@ -176,7 +176,7 @@ gather slot (f ∷ fs) = with_some (gather slot fs) f.number (slot f.number)
 
 -- what bytes mean in so many levels; records of unknown numbers and of unfitting wire types count for nothing
 unfoldable pub meaning_within : ℕ → Types → Inner
-meaning_within zero types = record { message = λ fields bytes. record { fields = [] }; entry = λ s kind bytes. (key_of (default_of s), roll-Item (default_item kind)) }
+meaning_within zero types = record { message = λ fields bytes. record { fields = [] }; entry = λ s kind bytes. Some (key_of (default_of types s), roll-Item (default_item types kind)) }
 meaning_within (suc k) types = record {
   message = λ fields bytes. record { fields = gather (slot_of (meaning_within k types) types fields (records k 0 bytes)) fields };
   entry = λ s kind bytes. entry_by (meaning_within k types) types s kind (records k 0 bytes);

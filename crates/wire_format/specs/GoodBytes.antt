@@ -3,15 +3,15 @@
 use Rattle.std.specs.Prelude.{◌≡◌, ℕ, zero, suc, true, List, Option, Some, None}
 use Rattle.std.specs.List.{AllByRecursion}
 use Rattle.std.specs.Str.{is_utf8}
-use Rattle.schema.specs.Types.{field_in, fields_of}
-use Rattle.schema.specs.declared.types.fields.Field.{Field}
-use Rattle.schema.specs.declared.types.fields.Kind.{Kind}
-use Rattle.schema.specs.declared.types.fields.Kind.TheVariants.{One as OneOf, Message as MessageOf}
-use Rattle.schema.specs.declared.types.fields.Scalar.{Scalar}
-use Rattle.schema.specs.declared.types.fields.Scalar.TheVariants.{Text as TextOf}
-use Rattle.schema.specs.declared.types.fields.Shape.{Shape}
-use Rattle.schema.specs.declared.types.fields.Shape.TheVariants.{Map as MapOf}
-use Rattle.schema.specs.declared.types.messages.Types.{Types}
+use Rattle.message_types.specs.Types.{field_in, fields_of}
+use Rattle.message_types.specs.declared.fields.Field.{Field}
+use Rattle.message_types.specs.declared.fields.Kind.{Kind}
+use Rattle.message_types.specs.declared.fields.Kind.TheVariants.{One as OneOf, Message as MessageOf}
+use Rattle.message_types.specs.declared.fields.Scalar.{Scalar}
+use Rattle.message_types.specs.declared.fields.Scalar.TheVariants.{Text as TextOf}
+use Rattle.message_types.specs.declared.fields.Shape.{Shape}
+use Rattle.message_types.specs.declared.fields.Shape.TheVariants.{Map as MapOf}
+use Rattle.message_types.specs.declared.messages.Types.{Types}
 use Rattle.wire_format.specs.WireFaults.{entry_fields}
 use Rattle.wire_records.specs.WholeRecords.{AreWhole}
 use Rattle.wire_records.specs.WireRecord.{Record, Payload, sized, records}

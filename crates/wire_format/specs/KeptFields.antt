@@ -4,20 +4,20 @@
 -- slot that could tell so.
 use Rattle.std.specs.Prelude.{◌≡◌, ◌≢◌, ℕ, zero, suc, true, List, Option, Some, None}
 use Rattle.std.specs.List.{flat_map, filter_map, list_any}
-use Rattle.schema.specs.Types.{field_in, fields_of}
-use Rattle.schema.specs.declared.types.fields.Field.{Field}
-use Rattle.schema.specs.declared.types.fields.Kind.{Kind}
-use Rattle.schema.specs.declared.types.fields.Kind.TheVariants.{One as OneOf, Message as MessageOf}
-use Rattle.schema.specs.declared.types.fields.Shape.{Shape}
-use Rattle.schema.specs.declared.types.fields.Shape.TheVariants.{Many as ManyOf, Map as MapOf}
-use Rattle.schema.specs.declared.types.messages.Types.{Types}
+use Rattle.message_types.specs.Types.{field_in, fields_of}
+use Rattle.message_types.specs.declared.fields.Field.{Field}
+use Rattle.message_types.specs.declared.fields.Kind.{Kind}
+use Rattle.message_types.specs.declared.fields.Kind.TheVariants.{One as OneOf, Message as MessageOf}
+use Rattle.message_types.specs.declared.fields.Shape.{Shape}
+use Rattle.message_types.specs.declared.fields.Shape.TheVariants.{Many as ManyOf, Map as MapOf}
+use Rattle.message_types.specs.declared.messages.Types.{Types}
 use Rattle.schema.specs.declared.value.Slot.{Slot}
 use Rattle.wire_format.specs.FieldValues.{payloads, sized_of, counts, slot_of, meaning_within}
 use Rattle.wire_records.specs.WireRecord.{Payload, records}
 
 -- a field of which a payload counts has a slot
-abbrev pub KeepsSlot : Kind → List Payload → Option Slot → Type 0
-KeepsSlot kind ps o = list_any (counts kind) ps ≡ true → o ≢ None
+abbrev pub KeepsSlot : Types → Kind → List Payload → Option Slot → Type 0
+KeepsSlot types kind ps o = list_any (counts types kind) ps ≡ true → o ≢ None
 
 -- the message that payloads are, joined, undoes nothing, where `inner` says so of bytes
 abbrev pub KeepsMessage : (List Field → List ℕ → Type 0) → Types → Kind → List Payload → Type 0
@@ -28,7 +28,7 @@ KeepsMessage inner types (MessageOf id) ps = inner (fields_of types id) (flat_ma
 abbrev pub KeepsField : (List Field → List ℕ → Type 0) → Types → Shape → Kind → List Payload → Option Slot → Type 0
 KeepsField inner types ManyOf kind ps o = Unit {0}
 KeepsField inner types (MapOf s) kind ps o = Unit {0}
-KeepsField inner types shape kind ps o = KeepsSlot kind ps o × KeepsMessage inner types kind ps
+KeepsField inner types shape kind ps o = KeepsSlot types kind ps o × KeepsMessage inner types kind ps
 
 -- bytes undo nothing that they set as a message with these fields, in so many levels
 unfoldable pub KeepsAll : ℕ → Types → List Field → List ℕ → Type 0

@@ -3,11 +3,11 @@ use Rattle.std.specs.Prelude.{◌≡◌, ◌<◌, ◌^◌, ◌↔◌, ◌++◌, 
 use Rattle.std.specs.List.{AllByRecursion}
 use Rattle.base.specs.Bytes.{AreBytes}
 use Rattle.schema.specs.Soundness.{IsSound, IsSoundField}
-use Rattle.schema.specs.Types.{fields_of}
+use Rattle.message_types.specs.Types.{fields_of}
 use Rattle.schema.specs.Validity.{IsValid}
-use Rattle.schema.specs.declared.types.messages.MessageType.{MessageType}
-use Rattle.schema.specs.declared.types.messages.TypeId.{TypeId}
-use Rattle.schema.specs.declared.types.messages.Types.{Types}
+use Rattle.message_types.specs.declared.messages.MessageType.{MessageType}
+use Rattle.message_types.specs.declared.messages.TypeId.{TypeId}
+use Rattle.message_types.specs.declared.messages.Types.{Types}
 use Rattle.schema.specs.declared.value.Value.{Value}
 use Rattle.wire_format.specs.CanonicalBytes.{canonical_bytes}
 use Rattle.wire_format.specs.Decoding.{DecodesTo, decoding}

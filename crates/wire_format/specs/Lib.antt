@@ -4,7 +4,7 @@ pub use Rattle.base.specs.Saturated
 pub use Rattle.schema.specs.Layers
 pub use Rattle.schema.specs.Pairs
 pub use Rattle.schema.specs.Soundness
-pub use Rattle.schema.specs.Types
+pub use Rattle.message_types.specs.Types
 pub use Rattle.schema.specs.Validity
 pub use Rattle.schema.specs.Value
 pub use Rattle.wire_records.specs.Outcome

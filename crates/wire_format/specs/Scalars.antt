@@ -5,8 +5,9 @@ use Rattle.std.specs.Option.{option_to_list}
 use Rattle.std.specs.Int.{w32, w64, cast_signed}
 use Rattle.schema.specs.Layers.{ItemLayer}
 use Rattle.schema.specs.declared.value.Item.TheOpen.{Number, Truth, Text, Bytes}
-use Rattle.schema.specs.declared.types.fields.Scalar.{Scalar}
-use Rattle.schema.specs.declared.types.fields.Scalar.TheVariants.{Int32, Int64, Uint32, Sint32, Sint64, Fixed32, Fixed64, Sfixed32, Sfixed64, Bool as BoolOf, Text as TextOf, Bytes as BytesOf, Enumeration}
+use Rattle.message_types.specs.declared.fields.Scalar.{Scalar}
+use Rattle.message_types.specs.declared.fields.Scalar.TheVariants.{Int32, Int64, Uint32, Sint32, Sint64, Fixed32, Fixed64, Sfixed32, Sfixed64, Bool as BoolOf, Text as TextOf, Bytes as BytesOf, Enumeration}
+use Rattle.message_types.specs.declared.messages.Types.{Types}
 use Rattle.wire_records.specs.declared.fault.WireKind.{WireKind}
 use Rattle.wire_records.specs.WireRecord.{Payload, Piece, number, eight, sized, four, payload_in}
 
@@ -35,31 +36,32 @@ scalar_wire TextOf = 2
 scalar_wire BytesOf = 2
 scalar_wire _ = 0
 
--- what a payload is as a scalar, if it fits
-abbrev pub scalar_of : Scalar → Payload → Option ItemLayer
-scalar_of TextOf (sized bs) = Some (Text bs)
-scalar_of BytesOf (sized bs) = Some (Bytes bs)
-scalar_of Fixed32 (four n) = Some (Number (pos n))
-scalar_of Sfixed32 (four n) = Some (Number (cast_signed w32 n))
-scalar_of Fixed64 (eight n) = Some (Number (pos n))
-scalar_of Sfixed64 (eight n) = Some (Number (cast_signed w64 n))
-scalar_of s (number n) = if scalar_wire s == 0 then Some (number_of s n) else None
-scalar_of _ _ = None
+-- what a payload is as a scalar among these types, if it fits and counts
+abbrev pub scalar_of : Types → Scalar → Payload → Option ItemLayer
+scalar_of types TextOf (sized bs) = Some (Text bs)
+scalar_of types BytesOf (sized bs) = Some (Bytes bs)
+scalar_of types Fixed32 (four n) = Some (Number (pos n))
+scalar_of types Sfixed32 (four n) = Some (Number (cast_signed w32 n))
+scalar_of types Fixed64 (eight n) = Some (Number (pos n))
+scalar_of types Sfixed64 (eight n) = Some (Number (cast_signed w64 n))
+scalar_of types s (number n) = if scalar_wire s == 0 then Some (number_of s n) else None
+scalar_of types _ _ = None
 
--- the default of a scalar kind
-abbrev pub default_of : Scalar → ItemLayer
-default_of BoolOf = Truth false
-default_of TextOf = Text []
-default_of BytesOf = Bytes []
-default_of _ = Number (pos 0)
+-- the default of a scalar kind among these types
+abbrev pub default_of : Types → Scalar → ItemLayer
+default_of types BoolOf = Truth false
+default_of types TextOf = Text []
+default_of types BytesOf = Bytes []
+default_of types _ = Number (pos 0)
 
 -- an item, if it fits, and what goes on behind it
-abbrev pub and_elements : Scalar → Result Piece WireKind → (ℕ → List ItemLayer) → List ItemLayer
-and_elements s (Err e) go = []
-and_elements s (Ok p) go = option_to_list (scalar_of s p.payload) ++ go (p.to - 1)
+abbrev pub and_elements : Types → Scalar → Result Piece WireKind → (ℕ → List ItemLayer) → List ItemLayer
+and_elements types s (Err e) go = []
+and_elements types s (Ok p) go = option_to_list (scalar_of types s p.payload) ++ go (p.to - 1)
 
 -- the items of a packed payload behind `skip` bytes
-abbrev pub elements : Scalar → ℕ → List ℕ → List ItemLayer
-elements s skip [] = []
-elements s (suc skip) (b ∷ bs) = elements s skip bs
-elements s zero (b ∷ bs) = and_elements s (payload_in (scalar_wire s) (b ∷ bs)) (λ skip. elements s skip bs)
+abbrev pub elements : Types → Scalar → ℕ → List ℕ → List ItemLayer
+elements types s skip [] = []
+elements types s (suc skip) (b ∷ bs) = elements types s skip bs
+elements types s zero (b ∷ bs) =
+    and_elements types s (payload_in (scalar_wire s) (b ∷ bs)) (λ skip. elements types s skip bs)

@@ -1,13 +1,13 @@
 -- Worked examples of the encoding guide's rules, computed by the definitions.
 use Rattle.std.specs.Prelude.{◌≡◌, pos, negsuc, [], ◌∷◌, false, true, codes, Ok, Err}
 use Rattle.schema.specs.declared.key.Key.TheVariants.{Text as TextKey}
-use Rattle.schema.specs.declared.types.fields.Kind.TheVariants.{One as OneOf, Message as MessageOf}
-use Rattle.schema.specs.declared.types.fields.Presence.TheVariants.{Implicit, Explicit}
-use Rattle.schema.specs.declared.types.fields.Scalar.TheVariants.{Int32, Sint32, Text as TextOf}
-use Rattle.schema.specs.declared.types.fields.Shape.TheVariants.{Single, Member, Many as ManyOf, Map as MapOf}
-use Rattle.schema.specs.declared.types.messages.Known.TheVariants.{Plain}
-use Rattle.schema.specs.declared.types.messages.TypeId.{TypeId}
-use Rattle.schema.specs.declared.types.messages.Types.{Types}
+use Rattle.message_types.specs.declared.fields.Kind.TheVariants.{One as OneOf, Message as MessageOf}
+use Rattle.message_types.specs.declared.fields.Presence.TheVariants.{Implicit, Explicit}
+use Rattle.message_types.specs.declared.fields.Scalar.TheVariants.{Int32, Sint32, Text as TextOf}
+use Rattle.message_types.specs.declared.fields.Shape.TheVariants.{Single, Member, Many as ManyOf, Map as MapOf}
+use Rattle.message_types.specs.declared.messages.Known.TheVariants.{Plain}
+use Rattle.message_types.specs.declared.messages.TypeId.{TypeId}
+use Rattle.message_types.specs.declared.messages.Types.{Types}
 use Rattle.schema.specs.declared.value.Item.{Number, Text, Message}
 use Rattle.schema.specs.declared.value.Slot.{One, Many, Pairs}
 use Rattle.schema.specs.declared.value.Value.{Value}

@@ -1,7 +1,7 @@
 //! The first fault of bytes as a message of a type: of its records, of the payloads of its message
 //! fields in every level, and of its text (the encoding guide, "Message Structure").
 ghost use Rattle.std.specs.Prelude.{◌≡◌, ◌+◌, ◌<◌, ◌^◌, length};
-ghost use Rattle.schema.specs.Types.{field_in};
+ghost use Rattle.message_types.specs.Types.{field_in};
 ghost use Rattle.std.specs.Str.{is_utf8};
 ghost use Rattle.wire_format.specs.Checks.{Finds};
 ghost use Rattle.wire_records.specs.RecordViews.{raw_of, sized_len};
@@ -10,8 +10,9 @@ ghost use Rattle.wire_format.specs.WireFaults.{Wire, element_fault, entry_field 
 
 use crate::fault::DecodeFault;
 use crate::sizes::scalar_wire;
+use crate::within::Within;
 use base::Text;
-use schema::{Field, Kind, Presence, Scalar, Shape, TypeId, Types, find_field, is_packable};
+use schema::{Field, Kind, Presence, Scalar, Shape, TypeId, find_field, is_packable};
 use std::alloc::Global;
 use std::str;
 use wire_records::{Payload, RawRecord, WireFault, WireKind, payload_of, record_of};
@@ -111,29 +112,28 @@ fn check_scalar(
 #[cycle(check)]
 fn check_payload(
     alloc: Global,
-    types: &Types,
-    level: u32,
+    within: Within<'_>,
     field: &Field,
     place: u64,
     from: u64,
     bytes: &[u8],
 ) -> Result<(), DecodeFault>
     requires { from + length bytes.now < 2 ^ 63 }
-    ensures { Finds result (payload_fault (first_fault level types.now) types.now level field.now.shape field.now.kind place from (sized bytes.now)) }
+    ensures { Finds result (payload_fault (first_fault within.entry.level within.entry.types.now) within.entry.types.now within.entry.level field.now.shape field.now.kind place from (sized bytes.now)) }
 {
     match (field.shape, field.kind) {
         (Shape::Map(scalar), kind) => {
-            if level == 0 || (level == 1 && is_message(kind)) {
+            if within.level == 0 || (within.level == 1 && is_message(kind)) {
                 return Err(fault_at(place, WireKind::TooDeep));
             }
             let entry = entry_fields(alloc, scalar, kind);
-            check_message(alloc, types, level, &entry, from, bytes)
+            check_message(alloc, within, &entry, from, bytes)
         }
         (_, Kind::Message(id)) => {
-            if level == 0 {
+            if within.level == 0 {
                 return Err(fault_at(place, WireKind::TooDeep));
             }
-            check_message(alloc, types, level, types.fields(id), from, bytes)
+            check_message(alloc, within, within.types.fields(id), from, bytes)
         }
         (shape, Kind::One(scalar)) => check_scalar(shape, scalar, place, from, bytes),
     }
@@ -143,19 +143,18 @@ fn check_payload(
 #[cycle(check)]
 fn check_record(
     alloc: Global,
-    types: &Types,
-    level: u32,
+    within: Within<'_>,
     fields: &[Field],
     place: u64,
     found: RawRecord<'_>,
 ) -> Result<(), DecodeFault>
     requires { place + found.head + sized_len found.payload < 2 ^ 63 }
-    ensures { Finds result (field_fault (first_fault level types.now) types.now level (field_in fields.now found.entry.number) place (raw_of found.entry)) }
+    ensures { Finds result (field_fault (first_fault within.entry.level within.entry.types.now) within.entry.types.now within.entry.level (field_in fields.now found.entry.number) place (raw_of found.entry)) }
 {
     match (find_field(fields, found.number), found.payload) {
         (Some(field), Payload::Len(bytes)) => {
             let from = place + found.head as u64;
-            check_payload(alloc, types, level, field, place, from, bytes)
+            check_payload(alloc, within, field, place, from, bytes)
         }
         _ => Ok(()),
     }
@@ -165,25 +164,28 @@ fn check_record(
 #[cycle(check)]
 pub(crate) fn check_message(
     alloc: Global,
-    types: &Types,
-    level: u32,
+    within: Within<'_>,
     fields: &[Field],
     place: u64,
     bytes: &[u8],
 ) -> Result<(), DecodeFault>
     requires { place + length bytes.now < 2 ^ 63 }
-    ensures { Finds result (first_fault level types.now fields.now place bytes.now) }
+    ensures { Finds result (first_fault within.entry.level within.entry.types.now fields.now place bytes.now) }
 {
-    if level == 0 {
+    if within.level == 0 {
         return Ok(());
     }
+    let inner = Within {
+        types: within.types,
+        level: within.level - 1,
+    };
     let mut at = 0;
     while at < bytes.len() {
         let (_, left) = bytes.split_at(at);
-        match record_of(left, level - 1) {
+        match record_of(left, inner.level) {
             Err((near, kind)) => return Err(fault_at(place + (at + near) as u64, kind)),
             Ok(found) => {
-                check_record(alloc, types, level - 1, fields, place + at as u64, found)?;
+                check_record(alloc, inner, fields, place + at as u64, found)?;
                 at += found.size;
             }
         }

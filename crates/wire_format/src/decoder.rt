@@ -3,10 +3,10 @@
 ghost use Rattle.std.specs.Prelude.{◌≡◌, ◌++◌, map, option_map, option_and_then, unwrap_or, Some, IfOk, OnOk};
 ghost use Rattle.std.specs.List.{AllByRecursion, flat_map, filter_map};
 ghost use Rattle.schema.specs.Pairs.{entries_of};
-ghost use Rattle.schema.specs.Types.{field_in};
+ghost use Rattle.message_types.specs.Types.{field_in};
 ghost use Rattle.schema.specs.Validity.{IsValid};
 ghost use Rattle.schema.specs.Value.{slots_of};
-ghost use Rattle.schema.specs.declared.types.fields.Kind.TheVariants.{Message as MessageOf};
+ghost use Rattle.message_types.specs.declared.fields.Kind.TheVariants.{Message as MessageOf};
 ghost use Rattle.schema.specs.declared.value.Item.{out-Item};
 ghost use Rattle.wire_format.specs.Checks.{Decodes};
 ghost use Rattle.wire_format.specs.Decoding.{decoding};
@@ -23,6 +23,7 @@ use crate::items::{last_scalar, push_scalars};
 use crate::payloads::{chunks_of, counted, joined, payloads_of};
 use crate::scalars::{key_of, stored};
 use crate::slots::{entries, many, or_default, put};
+use crate::within::Within;
 use base::{List, NoMemory};
 use schema::{
     Field, Item, Key, Kind, MAX_LEVELS, Pairs, Scalar, Shape, Slot, TypeId, Types, Value,
@@ -37,17 +38,16 @@ use wire_records::{Payload, RawRecord, records_of};
 #[cycle(value)]
 fn item_of(
     alloc: Global,
-    types: &Types,
-    level: u32,
+    within: Within<'_>,
     kind: Kind,
     payloads: &[Payload<'_>],
 ) -> Result<Option<Item>, NoMemory>
-    requires { AllByRecursion (IsGoodItem (AreGood level types.now) types.now kind) (map seen_payload payloads.now) }
-    ensures { IfOk result (λ o. option_map out-Item o ≡ singular (meaning_within level types.now) types.now kind (map seen_payload payloads.now)) }
+    requires { AllByRecursion (IsGoodItem (AreGood within.level within.types.now) within.types.now kind) (map seen_payload payloads.now) }
+    ensures { IfOk result (λ o. option_map out-Item o ≡ singular (meaning_within within.entry.level within.entry.types.now) within.entry.types.now kind (map seen_payload payloads.now)) }
 {
     match kind {
-        Kind::One(scalar) => last_scalar(alloc, scalar, payloads),
-        Kind::Message(id) => message_by(alloc, types, level, id, payloads),
+        Kind::One(scalar) => last_scalar(alloc, within.types, scalar, payloads),
+        Kind::Message(id) => message_by(alloc, within, id, payloads),
     }
 }
 
@@ -55,34 +55,32 @@ fn item_of(
 #[cycle(value)]
 fn message_by(
     alloc: Global,
-    types: &Types,
-    level: u32,
+    within: Within<'_>,
     id: TypeId,
     payloads: &[Payload<'_>],
 ) -> Result<Option<Item>, NoMemory>
-    requires { AllByRecursion (IsGoodItem (AreGood level types.now) types.now (MessageOf id)) (map seen_payload payloads.now) }
-    ensures { IfOk result (λ o. option_map out-Item o ≡ singular (meaning_within level types.now) types.now (MessageOf id) (map seen_payload payloads.now)) }
+    requires { AllByRecursion (IsGoodItem (AreGood within.level within.types.now) within.types.now (MessageOf id)) (map seen_payload payloads.now) }
+    ensures { IfOk result (λ o. option_map out-Item o ≡ singular (meaning_within within.entry.level within.entry.types.now) within.entry.types.now (MessageOf id) (map seen_payload payloads.now)) }
 {
     let chunks = chunks_of(alloc, payloads)?;
-    merged(alloc, types, level, types.fields(id), chunks.as_slice())
+    merged(alloc, within, within.types.fields(id), chunks.as_slice())
 }
 
 /// The message that chunks are, joined; none where there is no chunk.
 #[cycle(value)]
 fn merged(
     alloc: Global,
-    types: &Types,
-    level: u32,
+    within: Within<'_>,
     fields: &[Field],
     chunks: &[&[u8]],
 ) -> Result<Option<Item>, NoMemory>
-    requires { AllByRecursion (AreGood level types.now fields.now) (map (λ b. b.now) chunks.now) }
-    ensures { IfOk result (λ o. option_map out-Item o ≡ message_item (meaning_within level types.now) fields.now (map (λ b. b.now) chunks.now)) }
+    requires { AllByRecursion (AreGood within.level within.types.now fields.now) (map (λ b. b.now) chunks.now) }
+    ensures { IfOk result (λ o. option_map out-Item o ≡ message_item (meaning_within within.entry.level within.entry.types.now) fields.now (map (λ b. b.now) chunks.now)) }
 {
     match chunks.split_first() {
         None => Ok(None),
         Some((first, rest)) => {
-            let value = joined_message(alloc, types, level, fields, first, rest)?;
+            let value = joined_message(alloc, within, fields, first, rest)?;
             Ok(Some(Item::Message(value)))
         }
     }
@@ -92,43 +90,41 @@ fn merged(
 #[cycle(value)]
 fn joined_message(
     alloc: Global,
-    types: &Types,
-    level: u32,
+    within: Within<'_>,
     fields: &[Field],
     first: &[u8],
     rest: &[&[u8]],
 ) -> Result<Value, NoMemory>
-    requires good { AreGood level types.now fields.now first.now }
-    requires rest { AllByRecursion (AreGood level types.now fields.now) (map (λ b. b.now) rest.now) }
-    ensures { IfOk result (λ v. v ≡ (meaning_within level types.now).message fields.now (first.now ++ flat_map (λ q. q) (map (λ b. b.now) rest.now))) }
+    requires good { AreGood within.level within.types.now fields.now first.now }
+    requires rest { AllByRecursion (AreGood within.level within.types.now fields.now) (map (λ b. b.now) rest.now) }
+    ensures { IfOk result (λ v. v ≡ (meaning_within within.entry.level within.entry.types.now).message fields.now (first.now ++ flat_map (λ q. q) (map (λ b. b.now) rest.now))) }
 {
     if rest.is_empty() {
-        return message_of(alloc, types, fields, level, first);
+        return message_of(alloc, within, fields, first);
     }
     let bytes = joined(alloc, first, rest)?;
-    message_of(alloc, types, fields, level, bytes.as_slice())
+    message_of(alloc, within, fields, bytes.as_slice())
 }
 
 /// Appends the items of a payload of a list.
 #[cycle(value)]
 fn push_items(
     alloc: Global,
-    types: &Types,
-    level: u32,
+    within: Within<'_>,
     kind: Kind,
     payload: Payload<'_>,
     items: &mut List<Item>,
 ) -> Result<(), NoMemory>
-    requires { IsGoodItem (AreGood level types.now) types.now kind (seen_payload payload) }
-    ensures { OnOk result (map out-Item items.new ≡ map out-Item items.old ++ items_of (meaning_within level types.now) types.now kind (seen_payload payload.entry)) }
+    requires { IsGoodItem (AreGood within.level within.types.now) within.types.now kind (seen_payload payload) }
+    ensures { OnOk result (map out-Item items.new ≡ map out-Item items.old ++ items_of (meaning_within within.entry.level within.entry.types.now) within.entry.types.now kind (seen_payload payload.entry)) }
 {
     match (kind, payload) {
         (Kind::Message(id), Payload::Len(bytes)) => {
-            let value = message_of(alloc, types, types.fields(id), level, bytes)?;
+            let value = message_of(alloc, within, within.types.fields(id), bytes)?;
             items.push(Item::Message(value))
         }
         (Kind::Message(_), _) => Ok(()),
-        (Kind::One(scalar), _) => push_scalars(alloc, scalar, payload, items),
+        (Kind::One(scalar), _) => push_scalars(alloc, within.types, scalar, payload, items),
     }
 }
 
@@ -136,17 +132,16 @@ fn push_items(
 #[cycle(value)]
 fn list_of(
     alloc: Global,
-    types: &Types,
-    level: u32,
+    within: Within<'_>,
     kind: Kind,
     payloads: &[Payload<'_>],
 ) -> Result<List<Item>, NoMemory>
-    requires { AllByRecursion (IsGoodItem (AreGood level types.now) types.now kind) (map seen_payload payloads.now) }
-    ensures { IfOk result (λ is. map out-Item is ≡ flat_map (items_of (meaning_within level types.now) types.now kind) (map seen_payload payloads.now)) }
+    requires { AllByRecursion (IsGoodItem (AreGood within.level within.types.now) within.types.now kind) (map seen_payload payloads.now) }
+    ensures { IfOk result (λ is. map out-Item is ≡ flat_map (items_of (meaning_within within.entry.level within.entry.types.now) within.entry.types.now kind) (map seen_payload payloads.now)) }
 {
     let mut items = List::new(alloc);
     for payload in payloads {
-        push_items(alloc, types, level, kind, *payload, &mut items)?;
+        push_items(alloc, within, kind, *payload, &mut items)?;
     }
     Ok(items)
 }
@@ -155,26 +150,21 @@ fn list_of(
 #[cycle(value)]
 fn entry_of(
     alloc: Global,
-    types: &Types,
-    level: u32,
+    within: Within<'_>,
     scalar: Scalar,
     kind: Kind,
     bytes: &[u8],
 ) -> Result<(Key, Item), NoMemory>
-    requires { AreGood level types.now (entry_fields scalar kind) bytes.now }
-    ensures { IfOk result (λ e. e ≡ (meaning_within level types.now).entry scalar kind bytes.now) }
+    requires { AreGood within.level within.types.now (entry_fields scalar kind) bytes.now }
+    ensures { IfOk result (λ e. (meaning_within within.entry.level within.entry.types.now).entry scalar kind bytes.now ≡ Some e) }
 {
-    let inner = level - 1;
-    let records = records_of(alloc, bytes, inner)?;
-    let key = part_of(
-        alloc,
-        types,
-        inner,
-        Kind::One(scalar),
-        1,
-        records.as_slice(),
-    )?;
-    let item = part_of(alloc, types, inner, kind, 2, records.as_slice())?;
+    let inner = Within {
+        types: within.types,
+        level: within.level - 1,
+    };
+    let records = records_of(alloc, bytes, inner.level)?;
+    let key = part_of(alloc, inner, Kind::One(scalar), 1, records.as_slice())?;
+    let item = part_of(alloc, inner, kind, 2, records.as_slice())?;
     Ok((key_of(key), item))
 }
 
@@ -182,36 +172,34 @@ fn entry_of(
 #[cycle(value)]
 fn part_of(
     alloc: Global,
-    types: &Types,
-    level: u32,
+    within: Within<'_>,
     kind: Kind,
     number: u32,
     records: &[RawRecord<'_>],
 ) -> Result<Item, NoMemory>
-    requires { AllByRecursion (IsGoodItem (AreGood level types.now) types.now kind) (payloads number (map raw_of records.now)) }
-    ensures { IfOk result (λ i. out-Item i ≡ unwrap_or (singular (meaning_within level types.now) types.now kind (payloads number (map raw_of records.now))) (default_layer kind)) }
+    requires { AllByRecursion (IsGoodItem (AreGood within.level within.types.now) within.types.now kind) (payloads number (map raw_of records.now)) }
+    ensures { IfOk result (λ i. out-Item i ≡ unwrap_or (singular (meaning_within within.entry.level within.entry.types.now) within.entry.types.now kind (payloads number (map raw_of records.now))) (default_layer within.entry.types.now kind)) }
 {
     let payloads = payloads_of(alloc, number, records)?;
-    let item = item_of(alloc, types, level, kind, payloads.as_slice())?;
-    Ok(or_default(alloc, kind, item))
+    let item = item_of(alloc, within, kind, payloads.as_slice())?;
+    Ok(or_default(alloc, within.types, kind, item))
 }
 
 /// The entries of a map by its chunks.
 #[cycle(value)]
 fn pairs_of(
     alloc: Global,
-    types: &Types,
-    level: u32,
+    within: Within<'_>,
     scalar: Scalar,
     kind: Kind,
     chunks: &[&[u8]],
 ) -> Result<Pairs, NoMemory>
-    requires { AllByRecursion (AreGood level types.now (entry_fields scalar kind)) (map (λ b. b.now) chunks.now) }
-    ensures { IfOk result (λ ps. entries_of ps ≡ last_entries (map ((meaning_within level types.now).entry scalar kind) (map (λ b. b.now) chunks.now))) }
+    requires { AllByRecursion (AreGood within.level within.types.now (entry_fields scalar kind)) (map (λ b. b.now) chunks.now) }
+    ensures { IfOk result (λ ps. entries_of ps ≡ last_entries (filter_map ((meaning_within within.entry.level within.entry.types.now).entry scalar kind) (map (λ b. b.now) chunks.now))) }
 {
     let mut last = BTreeMap::new(alloc);
     for chunk in chunks {
-        let (key, item) = entry_of(alloc, types, level, scalar, kind, chunk)?;
+        let (key, item) = entry_of(alloc, within, scalar, kind, chunk)?;
         put_last(&mut last, key, item)?;
     }
     entries_pairs(alloc, last)
@@ -221,19 +209,18 @@ fn pairs_of(
 #[cycle(value)]
 fn slot_by(
     alloc: Global,
-    types: &Types,
-    level: u32,
+    within: Within<'_>,
     field: &Field,
     payloads: &[Payload<'_>],
 ) -> Result<Option<Slot>, NoMemory>
-    requires { AllByRecursion (IsGoodPayload (AreGood level types.now) types.now field.now.shape field.now.kind) (map seen_payload payloads.now) }
-    ensures { IfOk result (λ o. o ≡ slot_by_payloads (meaning_within level types.now) types.now field.now.presence field.now.shape field.now.kind (map seen_payload payloads.now)) }
+    requires { AllByRecursion (IsGoodPayload (AreGood within.level within.types.now) within.types.now field.now.shape field.now.kind) (map seen_payload payloads.now) }
+    ensures { IfOk result (λ o. o ≡ slot_by_payloads (meaning_within within.entry.level within.entry.types.now) within.entry.types.now field.now.presence field.now.shape field.now.kind (map seen_payload payloads.now)) }
 {
     match field.shape {
-        Shape::Many => Ok(many(list_of(alloc, types, level, field.kind, payloads)?)),
-        Shape::Map(scalar) => map_by(alloc, types, level, scalar, field.kind, payloads),
-        Shape::Single => single_by(alloc, types, level, field, payloads),
-        Shape::Member(_) => single_by(alloc, types, level, field, payloads),
+        Shape::Many => Ok(many(list_of(alloc, within, field.kind, payloads)?)),
+        Shape::Map(scalar) => map_by(alloc, within, scalar, field.kind, payloads),
+        Shape::Single => single_by(alloc, within, field, payloads),
+        Shape::Member(_) => single_by(alloc, within, field, payloads),
     }
 }
 
@@ -241,17 +228,16 @@ fn slot_by(
 #[cycle(value)]
 fn map_by(
     alloc: Global,
-    types: &Types,
-    level: u32,
+    within: Within<'_>,
     scalar: Scalar,
     kind: Kind,
     payloads: &[Payload<'_>],
 ) -> Result<Option<Slot>, NoMemory>
-    requires { AllByRecursion (IsGoodEntry (AreGood level types.now) scalar kind) (map seen_payload payloads.now) }
-    ensures { IfOk result (λ o. o ≡ pairs_slot (map ((meaning_within level types.now).entry scalar kind) (filter_map sized_of (map seen_payload payloads.now)))) }
+    requires { AllByRecursion (IsGoodEntry (AreGood within.level within.types.now) scalar kind) (map seen_payload payloads.now) }
+    ensures { IfOk result (λ o. o ≡ pairs_slot (filter_map ((meaning_within within.entry.level within.entry.types.now).entry scalar kind) (filter_map sized_of (map seen_payload payloads.now)))) }
 {
     let chunks = chunks_of(alloc, payloads)?;
-    let pairs = pairs_of(alloc, types, level, scalar, kind, chunks.as_slice())?;
+    let pairs = pairs_of(alloc, within, scalar, kind, chunks.as_slice())?;
     Ok(entries(pairs))
 }
 
@@ -259,15 +245,14 @@ fn map_by(
 #[cycle(value)]
 fn single_by(
     alloc: Global,
-    types: &Types,
-    level: u32,
+    within: Within<'_>,
     field: &Field,
     payloads: &[Payload<'_>],
 ) -> Result<Option<Slot>, NoMemory>
-    requires { AllByRecursion (IsGoodItem (AreGood level types.now) types.now field.now.kind) (map seen_payload payloads.now) }
-    ensures { IfOk result (λ o. o ≡ option_and_then (stored_slot field.now.presence) (singular (meaning_within level types.now) types.now field.now.kind (map seen_payload payloads.now))) }
+    requires { AllByRecursion (IsGoodItem (AreGood within.level within.types.now) within.types.now field.now.kind) (map seen_payload payloads.now) }
+    ensures { IfOk result (λ o. o ≡ option_and_then (stored_slot field.now.presence) (singular (meaning_within within.entry.level within.entry.types.now) within.entry.types.now field.now.kind (map seen_payload payloads.now))) }
 {
-    match item_of(alloc, types, level, field.kind, payloads)? {
+    match item_of(alloc, within, field.kind, payloads)? {
         Some(item) => Ok(stored(field.presence, item)),
         None => Ok(None),
     }
@@ -277,37 +262,35 @@ fn single_by(
 #[cycle(value)]
 fn field_slot(
     alloc: Global,
-    types: &Types,
-    level: u32,
+    within: Within<'_>,
     fields: &[Field],
     records: &[RawRecord<'_>],
     field: &Field,
     number: u32,
 ) -> Result<Option<Slot>, NoMemory>
     requires known { field_in fields.now number ≡ Some field.now }
-    requires good { AreGoodRecords (AreGood level types.now) types.now fields.now (map raw_of records.now) }
-    ensures { IfOk result (λ o. o ≡ slot_by_payloads (meaning_within level types.now) types.now field.now.presence field.now.shape field.now.kind (payloads number (counted_records fields.now number field.now.shape (map raw_of records.now)))) }
+    requires good { AreGoodRecords (AreGood within.level within.types.now) within.types.now fields.now (map raw_of records.now) }
+    ensures { IfOk result (λ o. o ≡ slot_by_payloads (meaning_within within.entry.level within.entry.types.now) within.entry.types.now field.now.presence field.now.shape field.now.kind (payloads number (counted_records within.entry.types.now fields.now number field.now.shape (map raw_of records.now)))) }
 {
-    let counting = counted(fields, number, field.shape, records);
+    let counting = counted(within.types, fields, number, field.shape, records);
     let payloads = payloads_of(alloc, number, counting)?;
-    slot_by(alloc, types, level, field, payloads.as_slice())
+    slot_by(alloc, within, field, payloads.as_slice())
 }
 
 /// The slot of a field number by the records of a message.
 #[cycle(value)]
 fn slot_at(
     alloc: Global,
-    types: &Types,
-    level: u32,
+    within: Within<'_>,
     fields: &[Field],
     records: &[RawRecord<'_>],
     number: u32,
 ) -> Result<Option<Slot>, NoMemory>
-    requires { AreGoodRecords (AreGood level types.now) types.now fields.now (map raw_of records.now) }
-    ensures { IfOk result (λ o. o ≡ slot_of (meaning_within level types.now) types.now fields.now (map raw_of records.now) number) }
+    requires { AreGoodRecords (AreGood within.level within.types.now) within.types.now fields.now (map raw_of records.now) }
+    ensures { IfOk result (λ o. o ≡ slot_of (meaning_within within.entry.level within.entry.types.now) within.entry.types.now fields.now (map raw_of records.now) number) }
 {
     match find_field(fields, number) {
-        Some(field) => field_slot(alloc, types, level, fields, records, field, number),
+        Some(field) => field_slot(alloc, within, fields, records, field, number),
         None => Ok(None),
     }
 }
@@ -316,18 +299,17 @@ fn slot_at(
 #[cycle(value)]
 fn gathered(
     alloc: Global,
-    types: &Types,
-    level: u32,
+    within: Within<'_>,
     fields: &[Field],
     records: &[RawRecord<'_>],
 ) -> Result<Value, NoMemory>
-    requires { AreGoodRecords (AreGood level types.now) types.now fields.now (map raw_of records.now) }
-    ensures { IfOk result (λ v. slots_of v ≡ gather (slot_of (meaning_within level types.now) types.now fields.now (map raw_of records.now)) fields.now) }
+    requires { AreGoodRecords (AreGood within.level within.types.now) within.types.now fields.now (map raw_of records.now) }
+    ensures { IfOk result (λ v. slots_of v ≡ gather (slot_of (meaning_within within.entry.level within.entry.types.now) within.entry.types.now fields.now (map raw_of records.now)) fields.now) }
 {
     let mut value = Value::new(alloc);
     let mut left = fields;
     while let Some((field, rest)) = left.split_last() {
-        let slot = slot_at(alloc, types, level, fields, records, field.number)?;
+        let slot = slot_at(alloc, within, fields, records, field.number)?;
         put(&mut value, field.number, slot)?;
         left = rest;
     }
@@ -338,17 +320,19 @@ fn gathered(
 #[cycle(value)]
 fn message_of(
     alloc: Global,
-    types: &Types,
+    within: Within<'_>,
     fields: &[Field],
-    level: u32,
     bytes: &[u8],
 ) -> Result<Value, NoMemory>
-    requires { AreGood level types.now fields.now bytes.now }
-    ensures { IfOk result (λ v. v ≡ (meaning_within level types.now).message fields.now bytes.now) }
+    requires { AreGood within.level within.types.now fields.now bytes.now }
+    ensures { IfOk result (λ v. v ≡ (meaning_within within.entry.level within.entry.types.now).message fields.now bytes.now) }
 {
-    let inner = level - 1;
-    let records = records_of(alloc, bytes, inner)?;
-    gathered(alloc, types, inner, fields, records.as_slice())
+    let inner = Within {
+        types: within.types,
+        level: within.level - 1,
+    };
+    let records = records_of(alloc, bytes, inner.level)?;
+    gathered(alloc, inner, fields, records.as_slice())
 }
 
 /// The value that the bytes are, or their first fault.
@@ -357,8 +341,12 @@ fn decoded(alloc: Global, types: &Types, id: TypeId, bytes: &[u8]) -> Result<Val
     ensures { Decodes result (decoding types.now id bytes.now) }
 {
     let fields = types.fields(id);
-    check_message(alloc, types, MAX_LEVELS, fields, 0, bytes)?;
-    match message_of(alloc, types, fields, MAX_LEVELS, bytes) {
+    let within = Within {
+        types,
+        level: MAX_LEVELS,
+    };
+    check_message(alloc, within, fields, 0, bytes)?;
+    match message_of(alloc, within, fields, bytes) {
         Ok(value) => Ok(value),
         Err(NoMemory) => Err(DecodeFault::NoMemory),
     }

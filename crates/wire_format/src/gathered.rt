@@ -1,6 +1,6 @@
 //! The entries of a map as they come: of each key the last one (the encoding guide, "Maps").
 ghost use Rattle.std.specs.Prelude.{◌≡◌, IfOk, OnOk};
-ghost use Rattle.schema.specs.Pairs.{entries_of, with_item};
+ghost use Rattle.schema.specs.Pairs.{entries_of, with_item, KeysRise};
 
 use base::{List, NoMemory};
 use schema::{Item, Key, Pairs};
@@ -22,6 +22,7 @@ pub(crate) fn put_last(
 
 /// The entries as those of a map field.
 pub(crate) fn entries_pairs(alloc: Global, entries: BTreeMap<Key, Item>) -> Result<Pairs, NoMemory>
+    requires { KeysRise entries.entries }
     ensures { IfOk result (λ ps. entries_of ps ≡ entries.entries) }
 {
     let mut list = List::new(alloc);

@@ -12,22 +12,23 @@ ghost use Rattle.std.specs.Option.{option_to_list};
 use crate::scalars::scalar_of;
 use crate::sizes::scalar_wire;
 use base::{List, NoMemory};
-use schema::{Item, Scalar, is_packable};
+use schema::{Item, Scalar, Types, is_packable};
 use std::alloc::Global;
 use wire_records::{Payload, payload_of};
 
 /// The last of the payloads that fit a scalar kind, as an item.
 pub(crate) fn last_scalar(
     alloc: Global,
+    types: &Types,
     scalar: Scalar,
     payloads: &[Payload<'_>],
 ) -> Result<Option<Item>, NoMemory>
     requires { AllByRecursion (IsGoodText scalar) (map seen_payload payloads.now) }
-    ensures { IfOk result (λ o. option_map out-Item o ≡ last_of (filter_map (scalar_of_kind scalar) (map seen_payload payloads.now))) }
+    ensures { IfOk result (λ o. option_map out-Item o ≡ last_of (filter_map (scalar_of_kind types.now scalar) (map seen_payload payloads.now))) }
 {
     let mut last = None;
     for payload in payloads {
-        match scalar_of(alloc, scalar, *payload)? {
+        match scalar_of(alloc, types, scalar, *payload)? {
             Some(item) => last = Some(item),
             None => {}
         }
@@ -39,12 +40,13 @@ pub(crate) fn last_scalar(
 #[tactic(auto, using(crate::proofs::decoding::CollectLemmas::packed_text))]
 fn push_elements(
     alloc: Global,
+    types: &Types,
     scalar: Scalar,
     bytes: &[u8],
     items: &mut List<Item>,
 ) -> Result<(), NoMemory>
     requires { is_packable_kind scalar ≡ true }
-    ensures { OnOk result (map out-Item items.new ≡ map out-Item items.old ++ elements scalar 0 bytes.now) }
+    ensures { OnOk result (map out-Item items.new ≡ map out-Item items.old ++ elements types.now scalar 0 bytes.now) }
 {
     let mut at = 0;
     while at < bytes.len() {
@@ -52,7 +54,7 @@ fn push_elements(
         match payload_of(scalar_wire(scalar), left) {
             Ok((payload, _, to)) => {
                 at += to;
-                push_scalar(alloc, scalar, payload, items)?;
+                push_scalar(alloc, types, scalar, payload, items)?;
             }
             Err(_) => return Ok(()),
         }
@@ -63,14 +65,15 @@ fn push_elements(
 /// Appends the item of a payload, if that fits the kind.
 fn push_scalar(
     alloc: Global,
+    types: &Types,
     scalar: Scalar,
     payload: Payload<'_>,
     items: &mut List<Item>,
 ) -> Result<(), NoMemory>
     requires { IsGoodText scalar (seen_payload payload) }
-    ensures { OnOk result (map out-Item items.new ≡ map out-Item items.old ++ option_to_list (scalar_of_kind scalar (seen_payload payload.entry))) }
+    ensures { OnOk result (map out-Item items.new ≡ map out-Item items.old ++ option_to_list (scalar_of_kind types.now scalar (seen_payload payload.entry))) }
 {
-    match scalar_of(alloc, scalar, payload)? {
+    match scalar_of(alloc, types, scalar, payload)? {
         Some(item) => items.push(item),
         None => Ok(()),
     }
@@ -79,20 +82,21 @@ fn push_scalar(
 /// Appends the items of a payload of a list of scalars, packed or not.
 pub(crate) fn push_scalars(
     alloc: Global,
+    types: &Types,
     scalar: Scalar,
     payload: Payload<'_>,
     items: &mut List<Item>,
 ) -> Result<(), NoMemory>
     requires { IsGoodText scalar (seen_payload payload) }
-    ensures { OnOk result (map out-Item items.new ≡ map out-Item items.old ++ scalar_items scalar (seen_payload payload.entry)) }
+    ensures { OnOk result (map out-Item items.new ≡ map out-Item items.old ++ scalar_items types.now scalar (seen_payload payload.entry)) }
 {
     match payload {
         Payload::Len(bytes) => {
             if is_packable(scalar) {
-                return push_elements(alloc, scalar, bytes, items);
+                return push_elements(alloc, types, scalar, bytes, items);
             }
-            push_scalar(alloc, scalar, payload, items)
+            push_scalar(alloc, types, scalar, payload, items)
         }
-        _ => push_scalar(alloc, scalar, payload, items),
+        _ => push_scalar(alloc, types, scalar, payload, items),
     }
 }

@@ -18,6 +18,7 @@ mod payloads;
 mod scalars;
 mod sizes;
 mod slots;
+mod within;
 
 pub use decoder::decode;
 pub use encoder::encode;

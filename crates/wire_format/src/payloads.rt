@@ -2,12 +2,12 @@
 //! One Wins" and "Oneofs").
 ghost use Rattle.std.specs.Prelude.{◌≡◌, ◌++◌, if◌then◌else◌, map, IfOk};
 ghost use Rattle.std.specs.List.{flat_map, filter_map};
-ghost use Rattle.wire_format.specs.FieldValues.{payloads, sized_of, in_oneof as is_in_oneof, sets_other as is_setting_other, counted as counted_records, first_passes, since};
+ghost use Rattle.wire_format.specs.FieldValues.{payloads, sized_of, in_oneof as is_in_oneof, sets_other as sets_another, counted as counted_records, first_passes, since};
 ghost use Rattle.wire_records.specs.RecordViews.{raw_of, payload_of};
 
 use crate::scalars::counts;
 use base::NoMemory;
-use schema::{Field, Shape, find_field};
+use schema::{Field, Shape, Types, find_field};
 use std::alloc::Global;
 use wire_records::{Payload, RawRecord};
 
@@ -67,14 +67,20 @@ fn in_oneof(shape: Shape, oneof: u32) -> bool
 }
 
 /// True where the record sets another member of the oneof than the number's.
-fn sets_other(fields: &[Field], oneof: u32, number: u32, found: &RawRecord<'_>) -> bool
-    ensures { result ≡ is_setting_other fields.now oneof number (raw_of found.now) }
+fn sets_other(
+    types: &Types,
+    fields: &[Field],
+    oneof: u32,
+    number: u32,
+    found: &RawRecord<'_>,
+) -> bool
+    ensures { result ≡ sets_another types.now fields.now oneof number (raw_of found.now) }
 {
     if found.number == number {
         return false;
     }
     match find_field(fields, found.number) {
-        Some(field) => in_oneof(field.shape, oneof) && counts(field.kind, found.payload),
+        Some(field) => in_oneof(field.shape, oneof) && counts(types, field.kind, found.payload),
         None => false,
     }
 }
@@ -82,25 +88,32 @@ fn sets_other(fields: &[Field], oneof: u32, number: u32, found: &RawRecord<'_>) 
 /// The records that count for a field: of a member of a oneof those behind the last that sets
 /// another member.
 pub(crate) fn counted<'r, 'a>(
+    types: &Types,
     fields: &[Field],
     number: u32,
     shape: Shape,
     records: &'r [RawRecord<'a>],
 ) -> &'r [RawRecord<'a>]
-    ensures { map raw_of result.now ≡ counted_records fields.now number shape (map raw_of records.now) }
+    ensures { map raw_of result.now ≡ counted_records types.now fields.now number shape (map raw_of records.now) }
 {
     match shape {
-        Shape::Member(oneof) => since_other(fields, oneof, number, records),
+        Shape::Member(oneof) => since_other(types, fields, oneof, number, records),
         _ => records,
     }
 }
 
 /// True where the first of the records sets another member of the oneof.
-fn begins_other(fields: &[Field], oneof: u32, number: u32, records: &[RawRecord<'_>]) -> bool
-    ensures { result ≡ first_passes (is_setting_other fields.now oneof number) (map raw_of records.now) }
+fn begins_other(
+    types: &Types,
+    fields: &[Field],
+    oneof: u32,
+    number: u32,
+    records: &[RawRecord<'_>],
+) -> bool
+    ensures { result ≡ first_passes (sets_another types.now fields.now oneof number) (map raw_of records.now) }
 {
     match records.split_first() {
-        Some((record, _)) => sets_other(fields, oneof, number, record),
+        Some((record, _)) => sets_other(types, fields, oneof, number, record),
         None => false,
     }
 }
@@ -117,18 +130,19 @@ fn start_at(is_other: bool, at: usize, start: usize) -> usize
 
 /// The records behind the last that sets another member of the oneof.
 fn since_other<'r, 'a>(
+    types: &Types,
     fields: &[Field],
     oneof: u32,
     number: u32,
     records: &'r [RawRecord<'a>],
 ) -> &'r [RawRecord<'a>]
-    ensures { map raw_of result.now ≡ since (is_setting_other fields.now oneof number) (map raw_of records.now) }
+    ensures { map raw_of result.now ≡ since (sets_another types.now fields.now oneof number) (map raw_of records.now) }
 {
     let mut start = 0;
     let mut at = 0;
     while at < records.len() {
         let (_, left) = records.split_at(at);
-        let is_other = begins_other(fields, oneof, number, left);
+        let is_other = begins_other(types, fields, oneof, number, left);
         at += 1;
         start = start_at(is_other, at, start);
     }

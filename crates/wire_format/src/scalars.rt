@@ -10,7 +10,7 @@ ghost use Rattle.wire_format.specs.Scalars.{number_of as number_of_kind, scalar_
 
 use crate::sizes::scalar_wire;
 use base::{Blob, NoMemory, Text};
-use schema::{Item, Key, Kind, Presence, Scalar, Slot, Value, is_default};
+use schema::{Item, Key, Kind, Presence, Scalar, Slot, Types, Value, is_default};
 use std::alloc::Global;
 use std::str;
 use wire_records::{I32, I64, LEN, Payload, VARINT};
@@ -53,14 +53,16 @@ fn text_of(alloc: Global, bytes: &[u8]) -> Result<Item, NoMemory>
     }
 }
 
-/// The item of a payload, if that fits the kind.
+/// The item of a payload, if that fits the kind and counts. Nothing is asked of the types as yet: each
+/// number of an enum counts, declared or not.
 pub(crate) fn scalar_of(
     alloc: Global,
+    types: &Types,
     scalar: Scalar,
     payload: Payload<'_>,
 ) -> Result<Option<Item>, NoMemory>
     requires { IsGoodText scalar (payload_of payload) }
-    ensures { IfOk result (λ o. option_map out-Item o ≡ scalar_of_kind scalar (payload_of payload.entry)) }
+    ensures { IfOk result (λ o. option_map out-Item o ≡ scalar_of_kind types.now scalar (payload_of payload.entry)) }
 {
     match (scalar, payload) {
         (Scalar::Text, Payload::Len(bytes)) => Ok(Some(text_of(alloc, bytes)?)),
@@ -82,9 +84,9 @@ pub(crate) fn scalar_of(
     }
 }
 
-/// True where a payload fits the scalar kind.
-fn fits(scalar: Scalar, payload: Payload<'_>) -> bool
-    ensures { result ≡ is_some (scalar_of_kind scalar (payload_of payload.entry)) }
+/// True where a payload fits the scalar kind and counts, as each does that fits.
+fn fits(types: &Types, scalar: Scalar, payload: Payload<'_>) -> bool
+    ensures { result ≡ is_some (scalar_of_kind types.now scalar (payload_of payload.entry)) }
 {
     match payload {
         Payload::Varint(_) => scalar_wire(scalar) == VARINT,
@@ -96,19 +98,19 @@ fn fits(scalar: Scalar, payload: Payload<'_>) -> bool
 }
 
 /// True where a payload counts for a singular field of the kind.
-pub(crate) fn counts(kind: Kind, payload: Payload<'_>) -> bool
-    ensures { result ≡ counts_for kind (payload_of payload.entry) }
+pub(crate) fn counts(types: &Types, kind: Kind, payload: Payload<'_>) -> bool
+    ensures { result ≡ counts_for types.now kind (payload_of payload.entry) }
 {
     match (kind, payload) {
-        (Kind::One(scalar), _) => fits(scalar, payload),
+        (Kind::One(scalar), _) => fits(types, scalar, payload),
         (Kind::Message(_), Payload::Len(_)) => true,
         (Kind::Message(_), _) => false,
     }
 }
 
-/// The default of a scalar kind.
-fn default_scalar(alloc: Global, scalar: Scalar) -> Item
-    ensures { out-Item result ≡ default_of scalar }
+/// The default of a scalar kind. Nothing is asked of the types as yet: that of an enum is 0.
+fn default_scalar(alloc: Global, types: &Types, scalar: Scalar) -> Item
+    ensures { out-Item result ≡ default_of types.now scalar }
 {
     match scalar {
         Scalar::Bool => Item::Truth(false),
@@ -119,11 +121,11 @@ fn default_scalar(alloc: Global, scalar: Scalar) -> Item
 }
 
 /// The default of a kind: of a message the empty one.
-pub(crate) fn default_item(alloc: Global, kind: Kind) -> Item
-    ensures { out-Item result ≡ default_layer kind }
+pub(crate) fn default_item(alloc: Global, types: &Types, kind: Kind) -> Item
+    ensures { out-Item result ≡ default_layer types.now kind }
 {
     match kind {
-        Kind::One(scalar) => default_scalar(alloc, scalar),
+        Kind::One(scalar) => default_scalar(alloc, types, scalar),
         Kind::Message(_) => Item::Message(Value::new(alloc)),
     }
 }

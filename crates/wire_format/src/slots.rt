@@ -7,16 +7,16 @@ ghost use Rattle.wire_format.specs.FieldValues.{many as many_slot, entries_slot,
 
 use crate::scalars::default_item;
 use base::{List, NoMemory};
-use schema::{Item, Kind, Pairs, Slot, Value};
+use schema::{Item, Kind, Pairs, Slot, Types, Value};
 use std::alloc::Global;
 
 /// The item, or the default of its kind.
-pub(crate) fn or_default(alloc: Global, kind: Kind, item: Option<Item>) -> Item
-    ensures { out-Item result ≡ unwrap_or (option_map out-Item item) (default_layer kind) }
+pub(crate) fn or_default(alloc: Global, types: &Types, kind: Kind, item: Option<Item>) -> Item
+    ensures { out-Item result ≡ unwrap_or (option_map out-Item item) (default_layer types.now kind) }
 {
     match item {
         Some(item) => item,
-        None => default_item(alloc, kind),
+        None => default_item(alloc, types, kind),
     }
 }
 

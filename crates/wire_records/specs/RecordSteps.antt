@@ -1,14 +1,11 @@
 -- The records of one level and their first fault, record by record.
-use Rattle.std.proofs.Common.{◌≡◌, ◌≢◌, ◌+◌, ◌-◌, ◌≤◌, ℕ, zero, suc, List, [], ◌∷◌, drop, Option, Some, None, Result, Ok, Err, arith, refl, ap, sym, ◌∙◌}
-use Rattle.std.proofs.lemmas.List.{drop-drop}
+use Rattle.std.proofs.Common.{◌≡◌, ◌≢◌, ◌+◌, ◌-◌, ◌≤◌, ℕ, zero, suc, List, [], ◌∷◌, drop, Option, Some, Ok, Err, arith, refl, ap, ◌∙◌}
 use Rattle.std.specs.Option.{option_or}
-use Rattle.wire_records.specs.RecordReader.{Reading, IsNext, TellsFirst, bytes_left}
 use Rattle.wire_records.specs.Varint.{number_in}
 use Rattle.wire_records.specs.RecordFaults.{records_fault}
 use Rattle.wire_records.specs.WireRecord.{Record, tag_in, record_with, record_in, records}
 use Rattle.wire_records.specs.declared.fault.WireFault.{WireFault}
 use Rattle.wire_records.specs.declared.fault.WireKind.{WireKind}
-use Rattle.wire_records.specs.declared.records.Record as found
 use Rattle.base.proofs.SliceLemmas.{drop_one}
 
 -- skipping bytes is dropping them
@@ -54,23 +51,3 @@ module _ {F : Type 0} (told : WireFault → F) (check : ℕ → Record → Optio
   pub fault_stop : (place : ℕ) (bytes : List ℕ) (e : ℕ × WireKind) → bytes ≢ [] → record_in k bytes ≡ Err e → records_fault told check k place 0 bytes ≡ Some (told (record { place = place + e.0; kind = e.1 }))
   fault_stop place [] e n h = absurd (n refl)
   fault_stop place (b ∷ bs) e n h = rw h refl
-
--- what is read where a reader stands is the first of the records that are left, or tells their end
-pub tells_first : (s t : Reading) (o : Option (Result found.Record WireFault)) → IsNext s o t → TellsFirst s o t
-tells_first s t None h = (ap (records 99 0) h.0, ap (records_fault (λ f. f) (λ at r. None) 99 s.1 0) h.0, h.1)
-tells_first s t (Some (Ok r)) h =
-    let size : 1 ≤ h.0.size = h.2 in
-    let behind : drop h.0.size (bytes_left s) ≡ bytes_left t = drop-drop h.0.size s.1 s.0 ∙ ap bytes_left (sym h.4) in
-    let place : s.1 + h.0.size ≡ t.1 = ap (λ (x : Reading). x.1) (sym h.4) in (
-      h.0,
-      h.3,
-      records_begin 99 (bytes_left s) h.0 size h.1 ∙ ap (λ (bs : List ℕ). h.0 ∷ records 99 0 bs) behind,
-      fault_next (λ f. f) (λ at r. None) 99 s.1 (bytes_left s) h.0 size h.1
-          ∙ ap (λ (bs : List ℕ). records_fault (λ f. f) (λ at r. None) 99 (s.1 + h.0.size) 0 bs) behind
-          ∙ ap (λ (p : ℕ). records_fault (λ f. f) (λ at r. None) 99 p 0 (bytes_left t)) place,
-    )
-tells_first s t (Some (Err e)) h = (
-  records_stop 99 (bytes_left s) (h.0, e.kind) h.2,
-  fault_stop (λ f. f) (λ at r. None) 99 s.1 (bytes_left s) (h.0, e.kind) h.1 h.2 ∙ ap (λ (p : ℕ). Some (record { place = p; kind = e.kind })) (sym h.3),
-  h.4,
-)

@@ -1,6 +1,6 @@
 -- Records (the encoding guide, "Message Structure"): a tag, and a payload as its wire type says. A message
 -- is a concatenation of records; a group is records between a start and an end of one number.
-use Rattle.std.specs.Prelude.{◌==◌, ◌+◌, ◌-◌, ◌/◌, ◌%◌, ◌^◌, ◌&&◌, ℕ, zero, suc, Bool, List, [], ◌∷◌, length, take, drop, if◌then◌else◌, nat_lt, Option, Some, None, Result, Ok, Err}
+use Rattle.std.specs.Prelude.{◌≡◌, ◌<◌, ◌==◌, ◌+◌, ◌-◌, ◌/◌, ◌%◌, ◌^◌, ◌&&◌, ℕ, zero, suc, Bool, false, List, [], ◌∷◌, length, take, drop, if◌then◌else◌, nat_lt, Option, Some, None, Result, Ok, Err}
 use Rattle.std.specs.Int.{w32, w64, from_le_bytes}
 use Rattle.wire_records.specs.Outcome.{◌>>=◌}
 use Rattle.wire_records.specs.Varint.{number_in}
@@ -39,7 +39,13 @@ pub record Piece : Type 0 where
 abbrev pub sized_in : ℕ → ℕ → List ℕ → Result Piece WireKind
 sized_in size from rest = if nat_lt (length rest) size then Err Short else Ok (record { payload = sized (take size rest); from = from; to = from + size })
 
--- the payload at the front, of a wire type that is no group
+-- a wire type that there is, and is none of a group's: VARINT, I64, LEN or I32
+pub record IsPlainWire (w : ℕ) : Type 0 where
+  pub low : w < 6
+  pub start : (w == 3) ≡ false
+  pub end : (w == 4) ≡ false
+
+-- the payload at the front, of a wire type that is no group's
 unfoldable pub payload_in : ℕ → List ℕ → Result Piece WireKind
 payload_in wire rest =
     if wire == 0 then (number_in rest >>= λ n. Ok (record { payload = number n.0; from = 0; to = n.1 }))

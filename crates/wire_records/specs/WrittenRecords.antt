@@ -1,5 +1,5 @@
 -- What was written is read again: varints, tags, payloads and records.
-use Rattle.std.proofs.Common.{◌≡◌, ◌+◌, ◌*◌, ◌/◌, ◌%◌, ◌^◌, ◌≤◌, ◌<◌, ◌==◌, ℕ, true, false, nat_lt, List, [], ◌++◌, length, take, drop, Ok, arith, refl, ap, ap₂, sym, length-append, drop_at}
+use Rattle.std.proofs.Common.{◌≡◌, ◌+◌, ◌*◌, ◌/◌, ◌%◌, ◌^◌, ◌≤◌, ◌<◌, ℕ, true, false, nat_lt, List, [], ◌++◌, length, take, drop, Ok, arith, refl, ap, ap₂, sym, length-append, drop_at}
 use Rattle.std.specs.Int.{w32, w64, to_le_bytes}
 use Rattle.std.proofs.Math.Seq.{take-length}
 use Rattle.std.proofs.lemmas.Bool.{lt-ltb, le-ltb}
@@ -7,7 +7,7 @@ use Rattle.std.proofs.lemmas.Nat.{from_le_bytes-to_le_bytes_4, from_le_bytes-to_
 use Rattle.base.proofs.GroupSizeLemmas.{groups_back}
 use Rattle.base.specs.Base128.{groups_of}
 use Rattle.wire_records.specs.Varint.{varint, number_in}
-use Rattle.wire_records.specs.WireRecord.{Tag, tag_in, is_tag, Payload, Piece, number, eight, sized, four, payload_in, Record, record_with, record_in}
+use Rattle.wire_records.specs.WireRecord.{IsPlainWire, Tag, tag_in, is_tag, Payload, Piece, number, eight, sized, four, payload_in, Record, record_with, record_in}
 use Rattle.wire_records.specs.RecordBytes.{tag, delimited}
 use Rattle.wire_records.specs.JoinedRecords.{number_stable, tag_stable}
 
@@ -79,12 +79,6 @@ eight_piece n l = ap (λ (x : ℕ). Ok (record { payload = eight x; from = 0; to
 -- the record of a number and a wire type with this payload
 abbrev pub record_of : ℕ → ℕ → Payload → List ℕ → Record
 record_of n w p body = record { number = n; payload = p; head = length (tag n w) + lead p; size = length (tag n w) + length body }
-
--- a wire type of no group
-pub record IsPlainWire (w : ℕ) : Type 0 where
-  pub low : w < 6
-  pub start : (w == 3) ≡ false
-  pub end : (w == 4) ≡ false
 
 -- behind its tag a payload is a record
 pub record_read : (k n w : ℕ) (body : List ℕ) (p : Payload) → 0 < n → n < 2 ^ 29 → IsPlainWire w → payload_in w body ≡ Ok (piece_of p body) → record_in k (tag n w ++ body) ≡ Ok (record_of n w p body)

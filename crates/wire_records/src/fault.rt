@@ -36,6 +36,11 @@ impl WireKind {
 }
 
 impl fmt::Display for WireKind {
+    ghost use Rattle.std.specs.Prelude.{Some};
+    ghost use Rattle.wire_records.specs.WireKindNames.{wire_kind_name};
+
+    ghost output = { λ kind. Some (wire_kind_name kind) };
+
     fn fmt<W: fmt::Write>(&self, f: &mut fmt::Formatter<W>) -> fmt::Result {
         f.write_str(self.name())
     }
@@ -51,6 +56,11 @@ pub struct WireFault {
 }
 
 impl fmt::Display for WireFault {
+    ghost use Rattle.std.specs.Prelude.{Some};
+    ghost use Rattle.wire_records.specs.WireKindNames.{wire_fault_text};
+
+    ghost output = { λ fault. Some (wire_fault_text fault) };
+
     fn fmt<W: fmt::Write>(&self, f: &mut fmt::Formatter<W>) -> fmt::Result {
         write!(f, "Wire at {} {}", self.place, self.kind)
     }

@@ -2,7 +2,7 @@
 ghost use Rattle.std.specs.Prelude.{◌≡◌, ◌≤◌, ◌+◌, ◌<◌, length, IfOk};
 ghost use Rattle.wire_records.specs.Outcome.{Gives};
 ghost use Rattle.wire_records.specs.RecordViews.{tag_of as seen_tag, piece_of as seen_piece, sized_len};
-ghost use Rattle.wire_records.specs.WireRecord.{tag_in, payload_in, sized_in};
+ghost use Rattle.wire_records.specs.WireRecord.{IsPlainWire, tag_in, payload_in, sized_in};
 
 use crate::fault::WireKind;
 use crate::varint::number_of;
@@ -65,10 +65,11 @@ fn i64_of(rest: &[u8]) -> Result<(Payload<'_>, usize, usize), WireKind>
     Ok((Payload::I64(n), 0, 8))
 }
 
-/// The payload at the front, of a wire type that is no group, and from where to where it lies, counted
+/// The payload at the front, of a wire type that is no group's, and from where to where it lies, counted
 /// from the front.
 #[tactic(auto, unfolding(crate::specs::WireRecord::payload_in))]
 pub fn payload_of(wire: u8, rest: &[u8]) -> Result<(Payload<'_>, usize, usize), WireKind>
+    requires { IsPlainWire wire }
     ensures value { Gives seen_piece result (payload_in wire rest.now) }
     ensures within { IfOk result (λ p. (1 ≤ p.2) × (p.1 + sized_len p.0 ≤ p.2) × (p.2 ≤ length rest.now)) }
 {

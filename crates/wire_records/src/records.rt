@@ -21,7 +21,7 @@ pub struct Record {
     pub place: u64,
     /// The offset of the payload's first byte.
     pub from: u64,
-    /// The offset behind the payload's last byte.
+    /// The offset behind the payload's last byte, and so behind the end tag of a group.
     pub to: u64,
 }
 
@@ -67,8 +67,9 @@ impl<'a> Records<'a> {
         Records { bytes, at: 0 }
     }
 
-    /// The next record, or None at the end. A fault changes nothing, so that it comes again. Takes
-    /// no memory.
+    /// The next record, or None at the end. The reader then stands behind the record. From `from` to
+    /// `to` its payload lies, the end of a group included. A fault changes nothing, so that it comes
+    /// again. Takes no memory.
     pub fn next(&mut self) -> Option<Result<Record, WireFault>>
         ensures { TellsFirst self.old result self.new }
     {

@@ -27,7 +27,7 @@ use decoded::{decode_answer, record_answer};
 use rows::{Answers, Row, answer_rows};
 use schema::{TypeId, Types};
 use std::alloc::Global;
-use std::io::{self, BufReader, BufWriter, Write};
+use std::io;
 use values::{default_answer, key_answer, pair_answer, valid_answer, value_answer};
 
 /// The types that rows declared.
@@ -87,12 +87,9 @@ impl Answers for Wire {
 
 fn main(rt: HostRuntime) -> io::Result<()> {
     let alloc = rt.alloc();
-    let mut out = BufWriter::new(alloc, io::writer(&rt))?;
-    let input = BufReader::new(alloc, rt.reader())?;
     let types = Types {
         messages: base::List::new(alloc),
         enums: base::List::new(alloc),
     };
-    answer_rows(alloc, input, &mut out, &mut Wire { types })?;
-    out.flush()
+    answer_rows(alloc, rt.reader(), io::writer(&rt), &mut Wire { types })
 }

@@ -1,9 +1,9 @@
 //! Files in memory.
-ghost use Rattle.std.specs.Prelude.{◌≡◌, ◌≢◌, ◌↔◌, ◌||◌, IfSome, IsTrue, is_none};
+ghost use Rattle.std.specs.Prelude.{◌≡◌, ◌≢◌, ◌↔◌, Some, None, IfSome, IsTrue};
 ghost use Rattle.std.specs.Option.{option_copied};
 ghost use Rattle.gate_world.specs.Causes.{HasCause};
-ghost use Rattle.gate_world.specs.FixedOutside.{file_in};
-ghost use Rattle.gate_world.specs.NumberedCalls.{IsOneCall, IsUncalled, is_listed};
+ghost use Rattle.gate_world.specs.FixedOutside.{file_in, reads_nothing};
+ghost use Rattle.gate_world.specs.NumberedCalls.{IsOneCall, IsUncalled, faults_after};
 ghost use Rattle.gate_world.specs.Sources.{ReadsWithin, ReadsAt};
 
 use crate::files::Files;
@@ -31,7 +31,7 @@ pub struct FixedFiles {
 impl FixedFiles {
     /// These files; `fails` has the numbers of the calls that fail, counted from 0.
     pub fn new(files: List<NamedBytes>, fails: List<u64>) -> FixedFiles
-        ensures told { ⟦<FixedFiles as Files>⟧.contents result ≡ file_in files }
+        ensures told { ⟦<FixedFiles as Files>⟧.contents result ≡ Some (file_in files) }
         ensures calls { IsUncalled result.calls fails }
     {
         FixedFiles {
@@ -69,7 +69,7 @@ fn read_from(bytes: &[u8], from: u64, into: &mut [u8]) -> Read
 }
 
 impl Files for FixedFiles {
-    ghost contents = { λ s path. file_in s.files path };
+    ghost contents = { λ s. Some (file_in s.files) };
 
     ghost faults = { λ s. s.calls.faults };
 
@@ -77,12 +77,13 @@ impl Files for FixedFiles {
         // What the trait says.
         ensures bound { ReadsWithin result into.new }
         ensures bytes { IfSome (file_in self.old.files path.now) (λ file. ReadsAt file from result into.new) }
+        ensures missing { file_in self.old.files path.now ≡ None → result ≡ Read.Failed }
         ensures same { self.new.files ≡ self.old.files }
         ensures cause { HasCause self.old.calls.faults self.new.calls.faults (result ≡ Read.Failed) }
         // It fails exactly where the call's number is listed, or there is no such file.
-        ensures failed { (result ≡ Read.Failed)
-            ↔ IsTrue (is_listed self.old.calls || is_none (file_in self.old.files path.now)) }
+        ensures failed { (result ≡ Read.Failed) ↔ IsTrue (reads_nothing self.old path.now) }
         ensures counted { IsOneCall self.old.calls self.new.calls }
+        ensures faulted { self.new.calls.faults ≡ faults_after self.old.calls.faults (reads_nothing self.old path.now) }
     {
         if self.calls.is_next_failing() {
             self.calls.fail();

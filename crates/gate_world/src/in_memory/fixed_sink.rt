@@ -44,7 +44,7 @@ impl FixedSink {
 impl Sink for FixedSink {
     ghost use Rattle.std.specs.Prelude.{◌≡◌, ◌↔◌, ℕ, Some, IsTrue};
     ghost use Rattle.gate_world.specs.Causes.{HasCause};
-    ghost use Rattle.gate_world.specs.NumberedCalls.{IsOneCall};
+    ghost use Rattle.gate_world.specs.NumberedCalls.{IsOneCall, faults_after};
     ghost use Rattle.gate_world.specs.Sinks.{WritesWithin, written_after};
     ghost use Rattle.gate_world.specs.FixedRoom.{takes_nothing, taken_of};
 
@@ -61,6 +61,7 @@ impl Sink for FixedSink {
         ensures failed { (result ≡ Wrote.Failed) ↔ IsTrue (takes_nothing self.old from.now) }
         ensures taken { (n : ℕ) → result ≡ Wrote.Taken n → n ≡ taken_of self.old from.now }
         ensures counted { IsOneCall self.old.calls self.new.calls }
+        ensures faulted { self.new.calls.faults ≡ faults_after self.old.calls.faults (takes_nothing self.old from.now) }
         ensures room { self.new.room ≡ self.old.room }
     {
         if self.calls.is_next_failing() {

@@ -31,7 +31,7 @@ impl FixedSource {
 impl Source for FixedSource {
     ghost use Rattle.std.specs.Prelude.{◌≡◌, ◌↔◌, Some, IsTrue, drop};
     ghost use Rattle.gate_world.specs.Causes.{HasCause};
-    ghost use Rattle.gate_world.specs.NumberedCalls.{IsOneCall, is_listed};
+    ghost use Rattle.gate_world.specs.NumberedCalls.{IsOneCall, faults_after, is_listed};
     ghost use Rattle.gate_world.specs.Sources.{ReadsWithin, Takes};
 
     ghost left = { λ s. Some (drop s.at s.bytes) };
@@ -46,6 +46,7 @@ impl Source for FixedSource {
         // It fails exactly where the call's number is listed.
         ensures failed { (result ≡ Read.Failed) ↔ IsTrue (is_listed self.old.calls) }
         ensures counted { IsOneCall self.old.calls self.new.calls }
+        ensures faulted { self.new.calls.faults ≡ faults_after self.old.calls.faults (is_listed self.old.calls) }
     {
         if self.calls.is_next_failing() {
             self.calls.fail();

@@ -1,5 +1,6 @@
 //! Calls that are counted, so that some of them can be made to fail.
-ghost use Rattle.std.specs.Prelude.{◌≡◌, ◌≤◌};
+ghost use Rattle.std.specs.Prelude.{◌≡◌, ◌≤◌, ◌+◌};
+ghost use Rattle.base.specs.Saturated.{saturated};
 ghost use Rattle.gate_world.specs.NumberedCalls.{IsOneCall, IsUncalled, is_listed};
 ghost use Rattle.gate_world.specs.Causes.{Rose};
 
@@ -38,6 +39,7 @@ impl Numbered {
 
     /// Counts a fault.
     pub(crate) fn fail(&mut self)
+        ensures faults { self.new.faults ≡ saturated (self.old.faults + 1) }
         ensures later { self.old.faults ≤ self.new.faults }
         ensures rose { Rose self.old.faults self.new.faults }
         ensures calls { (self.new.calls ≡ self.old.calls) × (self.new.fails ≡ self.old.fails) }

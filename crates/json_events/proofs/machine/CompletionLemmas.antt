@@ -51,7 +51,8 @@ CanEnd l k held = (t : List ℕ) × (m : Mark) × (word_from (Some (of l k held)
 number_ends : (t : List ℕ) (l : WordState) (k : Bool) (held : List ℕ) → is_number l ≡ true → Accepts (Some l) t → CanEnd l k held
 number_ends t l k held n a = (t, digits (held ++ t), number_complete t l k held n a, (λ f s e. absurd (cc (f, n))))
 
-no_digits : (k : Bool) (s u : List ℕ) → text_mark k s ≡ digits u → ⊥
+-- a string is no number
+pub no_digits : (k : Bool) (s u : List ℕ) → text_mark k s ≡ digits u → ⊥
 no_digits true s u e = cc
 no_digits false s u e = cc
 

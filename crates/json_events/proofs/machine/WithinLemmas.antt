@@ -1,5 +1,5 @@
 -- The tokens that a step gives end within the bytes that were taken by then.
-use Rattle.std.proofs.Common.{ℕ, ◌+◌, ◌≤◌, Bool, true, false, cond, List, [], ◌∷◌, ◌++◌, Option, Some, None, arith}
+use Rattle.std.proofs.Common.{ℕ, ◌+◌, ◌≤◌, Bool, true, false, cond, List, [], Option, Some, None, arith}
 use Rattle.base.proofs.EachLemmas.{each_weaker, each_joined}
 use Rattle.std.specs.List.{AllByRecursion}
 use Rattle.json_events.specs.JsonTree.{Mark, opens, closes, comma, colon, key, text, digits, name}

@@ -1,16 +1,15 @@
 -- What a call does to what a reader stands for, with the fault that it keeps.
-use Rattle.std.proofs.Common.{◌≡◌, ℕ, ◌+◌, ◌≤◌, ◌⊎◌, List, [], ◌∷◌, ◌++◌, length, take, Option, Some, None, inl, inr, refl, sym, subst, arith}
+use Rattle.std.proofs.Common.{◌≡◌, ℕ, ◌+◌, ◌≤◌, ◌⊎◌, List, [], ◌∷◌, ◌++◌, length, take, Option, Some, None, Ok, Err, inl, inr, refl, sym, subst, arith}
 use Rattle.std.proofs.lemmas.List.{append-nil, length-append, take-append-le}
-use Rattle.std.proofs.Math.Seq.{take-length}
 use Rattle.json_events.specs.declared.fault.JsonFault.{JsonFault}
 use Rattle.json_events.specs.declared.fault.JsonFault.TheVariants as fault
 use Rattle.json_events.specs.declared.token.Spanned.{Spanned}
+use Rattle.json_events.specs.declared.token.Fed.{Fed}
 use Rattle.json_events.specs.JsonTree.{opens}
 use Rattle.json_events.specs.JsonText.{Span}
-use Rattle.json_events.specs.JsonTokens.{BeginsWith, IsNoTextWith}
+use Rattle.json_events.specs.JsonTokens.{BeginsWith, IsNoTextWith, NoOtherHasEnded, AreTokensOf}
 use Rattle.json_events.specs.ReaderState.{StandsFor, IsBroken, IsTooDeep, IsCut, IsFaultOf, IsEndFault, StandsByFault, ReaderState, Stands}
-use Rattle.json_events.specs.ReaderAnswers.{IsGiven, StandsOn, IsFaultBehind, IsFeedFault, GoesOn, IsWholeWith, IsNotWhole}
-use Rattle.json_events.proofs.reading.StandLemmas.{stands_alive}
+use Rattle.json_events.specs.ReaderAnswers.{IsGiven, StandsOn, ReadsOn, IsFaultBehind, IsFeedFault, GoesOn, FeedsOn, IsWholeWith, IsNotWhole}
 
 -- a reader that has refused nothing
 pub stands_for : (r : ReaderState) (b : List ℕ) (ts : List Span) → r.fault ≡ None → Stands r b ts → StandsFor r.reading b ts
@@ -36,6 +35,17 @@ goes_on old new bytes token o n on b ts h =
 pub goes_wrong : (old new : ReaderState) (bytes : List ℕ) (f : JsonFault) → old.fault ≡ None → new.fault ≡ Some f → IsFaultBehind f old.reading bytes → GoesOn old new bytes None
 goes_wrong old new bytes f o n on b ts h = no_tokens new (b ++ bytes) ts (failed_stands new (b ++ bytes) ts f n (inl (on b ts (stands_for old b ts o h))))
 
+-- a call of feed that has refused nothing
+pub feeds_on : (old new : ReaderState) (bytes : List ℕ) (fed : Fed) → old.fault ≡ None → new.fault ≡ None
+    → ReadsOn old.reading new.reading bytes fed.taken fed.token → FeedsOn old new bytes (Ok fed)
+feeds_on old new bytes fed o n on b ts h =
+    let r = on b ts (stands_for old b ts o h) in
+    (r.0, r.1, for_stands new (b ++ take fed.taken bytes) (ts ++ r.0) n r.2, r.3)
+
+-- one that refuses
+pub feeds_none : (old new : ReaderState) (bytes : List ℕ) (f : JsonFault) → GoesOn old new bytes None → FeedsOn old new bytes (Err f)
+feeds_none old new bytes f on b ts h = let r = on b ts h in (r.0, r.1, r.2, tt)
+
 -- the fault of a call is that of all bytes
 pub feed_fault : (old : ReaderState) (bytes : List ℕ) (f : JsonFault) → old.fault ≡ None → IsFaultBehind f old.reading bytes → IsFeedFault f old bytes
 feed_fault old bytes f o on b ts h = on b ts (stands_for old b ts o h)
@@ -51,6 +61,7 @@ broken_stays : (b bytes : List ℕ) (ts : List Span) (k : ℕ) → IsBroken b ts
 broken_stays b bytes ts k h = record {
   within = omega (arith, h.within, long b bytes);
   alive = subst (λ (l : List ℕ). BeginsWith l ts) (take_same k b bytes (omega (arith, h.within))) h.alive;
+  no_other = subst (λ (l : List ℕ). NoOtherHasEnded l ts) (take_same k b bytes (omega (arith, h.within))) h.no_other;
   dead = λ x. h.dead (subst (λ (l : List ℕ). BeginsWith l ts) (sym (take_same (k + 1) b bytes (omega (arith, h.within)))) x);
 }
 
@@ -58,7 +69,8 @@ too_deep_stays : (b bytes : List ℕ) (ts : List Span) (k : ℕ) → IsTooDeep b
 too_deep_stays b bytes ts k h = record {
   bracket = h.bracket;
   within = omega (arith, h.within, long b bytes);
-  alive = subst (λ (l : List ℕ). BeginsWith l (ts ++ record { mark = opens h.bracket; from = k; to = k + 1 } ∷ [])) (take_same (k + 1) b bytes (omega (arith, h.within))) h.alive;
+  tokens = subst (λ (l : List ℕ). AreTokensOf l (ts ++ record { mark = opens h.bracket; from = k; to = k + 1 } ∷ []))
+      (take_same (k + 1) b bytes (omega (arith, h.within))) h.tokens;
   full = h.full;
 }
 
@@ -66,10 +78,12 @@ cut_stays : (b bytes : List ℕ) (ts : List Span) (k : ℕ) → IsCut b ts k →
 cut_stays b bytes ts k h = record {
   within = omega (arith, h.within, long b bytes);
   alive = subst (λ (l : List ℕ). BeginsWith l ts) (take_same k b bytes h.within) h.alive;
+  no_other = subst (λ (l : List ℕ). NoOtherHasEnded l ts) (take_same k b bytes h.within) h.no_other;
   dead = subst (λ (l : List ℕ). IsNoTextWith l ts) (take_same k b bytes h.within) h.dead;
 }
 
-fault_stays : (f : JsonFault) (b bytes : List ℕ) (ts : List Span) → IsFaultOf f b ts → IsFaultOf f (b ++ bytes) ts
+-- the fault stays, whatever bytes come
+pub fault_stays : (f : JsonFault) (b bytes : List ℕ) (ts : List Span) → IsFaultOf f b ts → IsFaultOf f (b ++ bytes) ts
 fault_stays (fault.Syntax n) b bytes ts h = (h.0, h.1, broken_stays b bytes ts h.0 h.2)
 fault_stays (fault.TooDeep n) b bytes ts h = (h.0, h.1, too_deep_stays b bytes ts h.0 h.2)
 fault_stays fault.NoMemory b bytes ts h = tt
@@ -102,12 +116,6 @@ pub end_wrong : (old new : ReaderState) (f : JsonFault) → old.fault ≡ None �
 end_wrong old new f o n w b ts h =
     let s = stands_for old b ts o h in
     let x = w b ts s in
-    let all : take (length b) b ≡ b = take-length b in
-    let cut : IsCut b ts (length b) = record {
-      within = omega arith;
-      alive = subst (λ (l : List ℕ). BeginsWith l ts) (sym all) (stands_alive old.reading b ts s);
-      dead = subst (λ (l : List ℕ). IsNoTextWith l ts) (sym all) x.1;
-    } in
-    let ends : IsEndFault f b ts = subst (λ g. IsEndFault g b ts) (sym x.0) (length b, refl, cut) in
+    let ends : IsEndFault f b ts = subst (λ g. IsEndFault g b ts) (sym x.0) (length b, refl, x.1) in
     let same : b ++ [] ≡ b = append-nil b in
     no_tokens new (b ++ []) ts (subst (λ (l : List ℕ). Stands new l ts) (sym same) (failed_stands new b ts f n (inr ends)))

@@ -1,7 +1,8 @@
 -- What a reader says at the end of what came.
-use Rattle.std.proofs.Common.{◌≡◌, ℕ, ◌≤◌, false, List, [], ◌∷◌, ◌++◌, length, Option, Some, None, refl, sym, ap, ◌∙◌, subst}
+use Rattle.std.proofs.Common.{◌≡◌, ℕ, ◌≤◌, false, List, [], ◌∷◌, ◌++◌, length, take, Option, Some, None, refl, sym, ap, ◌∙◌, subst, arith}
 use Rattle.std.specs.Option.{IfSome}
 use Rattle.std.proofs.lemmas.List.{append-nil}
+use Rattle.std.proofs.Math.Seq.{take-length}
 use Rattle.json_events.specs.declared.state.WordState.{WordState}
 use Rattle.json_events.specs.declared.fault.JsonFault.TheVariants as fault
 use Rattle.json_events.specs.declared.token.Spanned.{Spanned}
@@ -11,13 +12,13 @@ use Rattle.json_events.specs.WordSteps.{Word, mark_of}
 use Rattle.json_events.specs.NestingSteps.{Place}
 use Rattle.json_events.specs.ReadingSteps.{Config, reads, end_word, end_from, if_done, gap}
 use Rattle.json_events.specs.ReadingMoves.{number_ends}
-use Rattle.json_events.specs.JsonTokens.{IsNoTextWith, level_in, level_limit, IsValid, Awaits}
+use Rattle.json_events.specs.JsonTokens.{BeginsWith, IsNoTextWith, NoOtherHasEnded, level_in, level_limit, IsValid, Awaits}
 use Rattle.base.specs.Saturated.{saturated}
-use Rattle.json_events.specs.ReaderState.{Reading, IsReadable, StandsFor}
+use Rattle.json_events.specs.ReaderState.{Reading, IsReadable, StandsFor, IsCut}
 use Rattle.json_events.specs.ReaderAnswers.{mark_seen, IsGiven, StandsOn, IsWholeWith, IsNotWhole}
 use Rattle.json_events.specs.ProgressSeen.{started}
 use Rattle.json_events.proofs.reading.FeedLemmas.{move, number_given}
-use Rattle.json_events.proofs.reading.StandLemmas.{seen, word_of, seen_valid, awaits_seen, moved_stands}
+use Rattle.json_events.proofs.reading.StandLemmas.{seen, word_of, seen_valid, awaits_seen, stands_alive, stands_alone, moved_stands}
 
 -- nothing is to come
 whole_text : (c : Option Config) (xs : List Span) (b : List ℕ) (ts : List Span) → reads c [] ≡ Some xs → Awaits c b ts → (j : Json) × IsTextWith j b (ts ++ xs)
@@ -28,9 +29,21 @@ no_text c b ts e h j others x =
     let r = (h.completes [] others).0 (j, subst (λ (l : List ℕ). IsTextWith j l (ts ++ others)) (sym (append-nil b)) x) in
     absurd (cc (r, e))
 
+-- all bytes begin a text and are none
+cut_at_end : (b : List ℕ) (ts : List Span) → BeginsWith b ts → NoOtherHasEnded b ts → IsNoTextWith b ts → IsCut b ts (length b)
+cut_at_end b ts alive no_other dead =
+    let all : b ≡ take (length b) b = sym (take-length b) in
+    record {
+      within = omega arith;
+      alive = subst (λ (l : List ℕ). BeginsWith l ts) all alive;
+      no_other = subst (λ (l : List ℕ). NoOtherHasEnded l ts) all no_other;
+      dead = subst (λ (l : List ℕ). IsNoTextWith l ts) all dead;
+    }
+
 -- the reader is not at the end of a text
 not_whole : (r : Reading) → ((from at : ℕ) → reads (Some (seen r from at)) [] ≡ None) → IsNotWhole (StandsFor r) (fault.Syntax r.at)
-not_whole r e b ts h = (ap fault.Syntax h.at_is, no_text (Some (seen r h.start (length b))) b ts (e h.start (length b)) (awaits_seen r b ts h))
+not_whole r e b ts h =
+    (ap fault.Syntax h.at_is, cut_at_end b ts (stands_alive r b ts h) (stands_alone r b ts h) (no_text (Some (seen r h.start (length b))) b ts (e h.start (length b)) (awaits_seen r b ts h)))
 
 not_done : (w : Option Word) (p : Place) (from at : ℕ) → ((xs : List Span) → if_done p.want p.around xs ≡ None) → end_from w p from at ≡ None
 not_done None p from at h = h []

@@ -44,7 +44,7 @@ open_mark Sign i held m h e = refl
 open_mark Power i held m h e = refl
 
 -- what a choice between two moves is
-either_move : {Q : Type 0} (m : Moved) (t : Bool) (x y : Moved) → m ≡ cond t x y → (t ≡ true → m ≡ x → Q) → (t ≡ false → m ≡ y → Q) → Q
+pub either_move : {Q : Type 0} (m : Moved) (t : Bool) (x y : Moved) → m ≡ cond t x y → (t ≡ true → m ≡ x → Q) → (t ≡ false → m ≡ y → Q) → Q
 either_move m true x y e f g = f refl e
 either_move m false x y e f g = g refl e
 
@@ -52,7 +52,8 @@ either_move m false x y e f g = g refl e
 not_lost : {Q : Type 0} (c : Config) (t : Bool) (xs : List Span) → move (Some c) t xs ≡ lost → Q
 not_lost c t xs e = let n : Some c ≡ None = ap (λ (m : Moved). m.next) e in absurd (cc)
 
-not_taken : {Q : Type 0} (n : Option Config) (xs : List Span) (m : Moved) → m.took ≡ true → move n false xs ≡ m → Q
+-- a move that is not taken is none that is
+pub not_taken : {Q : Type 0} (n : Option Config) (xs : List Span) (m : Moved) → m.took ≡ true → move n false xs ≡ m → Q
 not_taken n xs m t e = let x : false ≡ m.took = ap (λ (m : Moved). m.took) e in absurd (cc (x, t))
 
 not_number : {Q : Type 0} (c : Config) (xs : List Span) (m : Option Mark) (p : Place) (from at : ℕ) → move (Some c) true xs ≡ number_ends m p from at → Q
@@ -60,7 +61,7 @@ not_number c xs None p from at e = not_lost c true xs e
 not_number c xs (Some m) p from at e = let t : true ≡ false = ap (λ (m : Moved). m.took) e in absurd (cc)
 
 -- a byte that was taken
-taken_out : (w : Option Word) (p : Place) (from at b : ℕ) (c : Config) (xs : List Span) → move (Some c) true xs ≡ moved_from w p from at b → (Some c ≡ (out_from w p from at b).next) × (xs ≡ (out_from w p from at b).given)
+pub taken_out : (w : Option Word) (p : Place) (from at b : ℕ) (c : Config) (xs : List Span) → move (Some c) true xs ≡ moved_from w p from at b → (Some c ≡ (out_from w p from at b).next) × (xs ≡ (out_from w p from at b).given)
 taken_out None p from at b c xs h = (ap (λ (m : Moved). m.next) h, ap (λ (m : Moved). m.given) h)
 taken_out (Some w) p from at b c xs h = by_more (more w b) h
   where

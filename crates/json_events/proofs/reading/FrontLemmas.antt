@@ -14,20 +14,24 @@ use Rattle.json_events.proofs.texts.TokenRuns.{reads_of_text}
 use Rattle.json_events.proofs.machine.StepLemmas.{valid_out}
 use Rattle.json_events.proofs.machine.CountLemmas.{CountsAt, out_counts}
 use Rattle.json_events.proofs.machine.EndedLemmas.{AllLate, reads_late, late}
+use Rattle.json_events.proofs.machine.GivenLemmas.{AllEnded, ended_later, out_ended}
+use Rattle.base.proofs.EachLemmas.{each_joined}
 use Rattle.json_events.proofs.reading.StandLemmas.{seen, awaits_seen, stands_alive}
 use Rattle.json_events.proofs.reading.CallLemmas.{stands_for}
 
 one_more : (n k : ℕ) → n + 1 + k ≡ n + suc k
 one_more n k = omega arith
 
--- bytes give these tokens, whatever follows, and all others end behind them
-record Front (p : List ℕ) (c : Config) : Type 0 where
-  given : List Span
-  others : (s : List ℕ) (all : List Span) → reads (Some c) (p ++ s) ≡ Some all → (rest : List Span) × (all ≡ given ++ rest) × AllLate (c.at + length p) rest
+-- bytes give these tokens, whatever follows, which have ended in them, and all others end behind them
+pub record Front (p : List ℕ) (c : Config) : Type 0 where
+  pub given : List Span
+  pub ended : AllEnded (c.at + length p) given
+  pub others : (s : List ℕ) (all : List Span) → reads (Some c) (p ++ s) ≡ Some all → (rest : List Span) × (all ≡ given ++ rest) × AllLate (c.at + length p) rest
 
 empty_front : (c : Config) → IsValid (Some c) → Front [] c
 empty_front c v = record {
   given = [];
+  ended = tt;
   others = λ s all h. (all, refl, subst (λ n. AllLate n all) (omega arith) (reads_late s c all v h));
 }
 
@@ -38,19 +42,25 @@ front (b ∷ p) c v = by_next (λ d. front p d) (out c b).next refl (valid_out c
     by_next : ((d : Config) → IsValid (Some d) → Front p d) → (n : Option Config) → (out c b).next ≡ n → IsValid n → (k : ℕ) → CountsAt n (c.at + 1) k → Front (b ∷ p) c
     by_next ih None e x k y = record {
       given = [];
+      ended = tt;
       others = λ s all h. let none : reads (Some c) (b ∷ (p ++ s)) ≡ None = ap (λ n. option_map (λ l. (out c b).given ++ l) (reads n (p ++ s))) e in absurd (cc (h, none));
     }
-    by_next ih (Some d) e x k y = record {
-      given = (out c b).given ++ (ih d x).given;
-      others = λ s all h.
-          let r = map_given (out c b).given (reads (out c b).next (p ++ s)) all h in
-          let i = (ih d x).others s r.0 (ap (λ n. reads n (p ++ s)) (sym e) ∙ r.1) in
-          let far : d.at + length p ≡ c.at + length (b ∷ p) = ap (λ n. n + length p) y.0 ∙ one_more c.at (length p) in
-          (i.0, r.2 ∙ ap (λ l. (out c b).given ++ l) i.1 ∙ sym (append_assoc (out c b).given (ih d x).given i.0), subst (λ n. AllLate n i.0) far i.2);
-    }
+    by_next ih (Some d) e x k y =
+        let far : d.at + length p ≡ c.at + length (b ∷ p) = ap (λ n. n + length p) y.0 ∙ one_more c.at (length p) in
+        let here : c.at + 1 ≤ c.at + length (b ∷ p) = omega arith in
+        record {
+          given = (out c b).given ++ (ih d x).given;
+          ended = each_joined (HasEnded (c.at + length (b ∷ p))) (out c b).given (ih d x).given
+              (ended_later (out c b).given (c.at + 1) (c.at + length (b ∷ p)) here (out_ended c.word c.place c.from c.at b))
+              (subst (λ n. AllEnded n (ih d x).given) far (ih d x).ended);
+          others = λ s all h.
+              let r = map_given (out c b).given (reads (out c b).next (p ++ s)) all h in
+              let i = (ih d x).others s r.0 (ap (λ n. reads n (p ++ s)) (sym e) ∙ r.1) in
+              (i.0, r.2 ∙ ap (λ l. (out c b).given ++ l) i.1 ∙ sym (append_assoc (out c b).given (ih d x).given i.0), subst (λ n. AllLate n i.0) far i.2);
+        }
 
 -- two lists of which one half has ended and the other has not
-ended_first : (n : ℕ) (ts g others rest : List Span) → ts ++ others ≡ g ++ rest → AllByRecursion (HasEnded n) ts → AllLate n rest → (more : List Span) × (g ≡ ts ++ more)
+pub ended_first : (n : ℕ) (ts g others rest : List Span) → ts ++ others ≡ g ++ rest → AllByRecursion (HasEnded n) ts → AllLate n rest → (more : List Span) × (g ≡ ts ++ more)
 ended_first n [] g others rest e h l = (g, refl)
 ended_first n (t ∷ ts) [] others [] e h l = absurd (cc (e))
 ended_first n (t ∷ ts) [] others (r ∷ rest) e h l = let same : r ≡ t = cc (e) in absurd (h.0 (subst (HasNotEnded n) same l.0))
@@ -60,7 +70,8 @@ ended_first n (t ∷ ts) (u ∷ g) others rest e h l =
     let r = ended_first n ts g others rest tail h.1 l in
     (r.0, ap (λ x. x ∷ g) same ∙ ap (λ l. t ∷ l) r.1)
 
-begin_front : (p : List ℕ) → Front p (record { word = None; place = record { want = want.Value; around = [] }; from = 0; at = 0 })
+-- the front at the start
+pub begin_front : (p : List ℕ) → Front p (record { word = None; place = record { want = want.Value; around = [] }; from = 0; at = 0 })
 begin_front p = front p (record { word = None; place = record { want = want.Value; around = [] }; from = 0; at = 0 }) tt
 
 -- the tokens that have ended in a front are those of each text that begins with it

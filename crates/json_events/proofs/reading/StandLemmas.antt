@@ -17,14 +17,17 @@ use Rattle.json_events.specs.WordSteps.{Word}
 use Rattle.json_events.specs.NestingSteps.{Place}
 use Rattle.json_events.specs.ReadingSteps.{Config, gap}
 use Rattle.json_events.specs.ReadingMoves.{lost, moved_at}
-use Rattle.json_events.specs.JsonTokens.{BeginsWith, level_in, level_limit, IsSound, IsValid, Awaits}
-use Rattle.json_events.specs.HeldWords.{HoldsAt}
+use Rattle.json_events.specs.JsonTokens.{BeginsWith, HasEnded, NoOtherHasEnded, AreTokensOf, level_in, level_limit, IsSound, IsValid, Awaits}
 use Rattle.base.specs.Saturated.{saturated}
 use Rattle.json_events.specs.ReaderState.{Reading, config_at, IsReadableWord, IsReadable, StandsFor, IsBroken, IsTooDeep, IsFaultOf}
 use Rattle.json_events.specs.ReaderAnswers.{mark_seen, IsGiven, StandsOn, IsFaultBehind}
-use Rattle.json_events.specs.ProgressSeen.{started, step_seen, at_behind, IsPlaced, IsRefused}
+use Rattle.json_events.specs.ProgressSeen.{HoldsReading, started, step_seen, at_behind, IsPlaced, IsRefused}
 use Rattle.json_events.proofs.machine.PrefixLemmas.{stands_start}
 use Rattle.json_events.proofs.machine.CompletionLemmas.{alive}
+use Rattle.json_events.proofs.machine.EndedLemmas.{late}
+use Rattle.json_events.proofs.machine.GivenLemmas.{within_ended}
+use Rattle.base.proofs.EachLemmas.{each_joined}
+use Rattle.std.specs.List.{AllByRecursion}
 use Rattle.json_events.proofs.reading.FeedLemmas.{move, takes_on, before_on, lost_on}
 
 -- a reader to which nothing came
@@ -69,6 +72,10 @@ awaits_seen r bytes ts h = subst (λ c. Awaits c bytes ts) (seen_is r h.start (l
 -- what a reader stands for begins a text
 pub stands_alive : (r : Reading) (bytes : List ℕ) (ts : List Span) → StandsFor r bytes ts → BeginsWith bytes ts
 stands_alive r bytes ts h = alive (seen r h.start (length bytes)) bytes ts (awaits_seen r bytes ts h)
+
+-- no token but those that were given has ended in it
+pub stands_alone : (r : Reading) (bytes : List ℕ) (ts : List Span) → StandsFor r bytes ts → NoOtherHasEnded bytes ts
+stands_alone r bytes ts h = late (seen r h.start (length bytes)) bytes ts (awaits_seen r bytes ts h)
 
 -- where the word that a byte goes to began
 started_is : (r : Reading) (bytes : List ℕ) (ts : List Span) (h : StandsFor r bytes ts) → started r.word r.from r.at ≡ saturated (started r.word h.start (length bytes))
@@ -130,7 +137,8 @@ before_stands old new b xs bytes ts v deep moves at_is from_is h =
     (at_is ∙ h.at_is)
     (subst (λ (l : List ℕ). Awaits (Some (seen new from n)) l (ts ++ xs from n)) same next))
 
-abbrev token_at : Spanned → ℕ → ℕ → Span
+-- a token at exact offsets
+abbrev pub token_at : Spanned → ℕ → ℕ → Span
 token_at s from to = record { mark = mark_seen s.token; from = from; to = to }
 
 -- what a step takes, and the token that it gives
@@ -186,11 +194,11 @@ step_valid old new b (step.Before s) v e =
     (0, (before_on (seen old 0 0) (Some (seen new (started old.word 0 0) 0)) b xs (seen_valid old 0 0 v) (ap (λ c. move c false xs) (sym (seen_is new (started old.word 0 0) 0)) ∙ e ∙ ap (λ c. moved_at c b) (seen_is old 0 0))).1)
 
 -- behind a step some bytes complete what is kept
-pub step_readable : (old new : Reading) (b : ℕ) (s : Step) → IsReadable old → level_in new.place.want new.place.around ≤ level_limit → HoldsAt new.word new.held
+pub step_readable : (old new : Reading) (b : ℕ) (s : Step) → IsReadable old → level_in new.place.want new.place.around ≤ level_limit → HoldsReading new
     → ((from at : ℕ) → step_seen s new (started old.word from at) at ≡ moved_at (config_at old from at) b) → IsReadable new
 step_readable old new b s v deep holds moves =
     let r = step_valid old new b s v (moves 0 0) in
-    record { word = readable_word new (started old.word 0 0) r.0 r.1; holds = holds; shallow = deep }
+    record { word = readable_word new (started old.word 0 0) r.0 r.1; holds = holds.0; kept = holds.1; shallow = deep }
 
 -- two after one another
 pub on_then : (x y z : Reading) (xs ys : List ℕ) (token : Option Spanned) → StandsOn x y xs None → StandsOn y z ys token → StandsOn x z (xs ++ ys) token
@@ -205,7 +213,7 @@ pub on_nothing : (x : Reading) → StandsOn x x [] None
 on_nothing x b ts h = ([], refl, subst (λ (l : List ℕ). StandsFor x l (ts ++ [])) (sym (append-nil b)) (subst (λ l. StandsFor x b l) (sym (append-nil ts)) h))
 
 -- with no token the given ones are the same
-on_quiet : (old now : Reading) (xs : List ℕ) → StandsOn old now xs None → (b : List ℕ) (ts : List Span) → StandsFor old b ts → StandsFor now (b ++ xs) ts
+pub on_quiet : (old now : Reading) (xs : List ℕ) → StandsOn old now xs None → (b : List ℕ) (ts : List Span) → StandsFor old b ts → StandsFor now (b ++ xs) ts
 on_quiet old now xs on b ts h =
     let r = on b ts h in
     subst (λ l. StandsFor now (b ++ xs) l) (ap (λ l. ts ++ l) r.1 ∙ append-nil ts) r.2
@@ -215,10 +223,26 @@ broken : (now : Reading) (front bytes : List ℕ) (ts : List Span) (k b : ℕ) �
 broken now front bytes ts k b v within before behind gone h = record {
   within = within;
   alive = subst (λ (l : List ℕ). BeginsWith l ts) (sym before) (stands_alive now front ts h);
+  no_other = subst (λ (l : List ℕ). NoOtherHasEnded l ts) (sym before) (stands_alone now front ts h);
   dead = λ x.
       let no_more : lost ≡ moved_at (Some (seen now h.start (length front))) b = sym (gone h.start (length front)) ∙ ap (λ c. moved_at c b) (seen_is now h.start (length front)) in
       lost_on (seen now h.start (length front)) b front ts no_more (awaits_seen now front ts h) x.0 x.1 x.2 (subst (λ (l : List ℕ). IsTextWith x.2 (l ++ x.0) (ts ++ x.1)) behind x.3);
 }
+
+-- the tokens of the bytes with an opening bracket behind them
+deeper_tokens : (c : Config) (front : List ℕ) (b : ℕ) (ts : List Span) (bracket : Bracket) → AllByRecursion (HasEnded (length front + 1)) ts
+    → Awaits (Some c) (front ++ b ∷ []) (ts ++ with_token (opens bracket) (length front) (length front + 1) [])
+    → AreTokensOf (front ++ b ∷ []) (ts ++ with_token (opens bracket) (length front) (length front + 1) [])
+deeper_tokens c front b ts bracket ended h =
+    let n = length front in
+    let new = with_token (opens bracket) n (n + 1) [] in
+    let long : length (front ++ b ∷ []) ≡ n + 1 = length-append front (b ∷ []) in
+    record {
+      begins = alive c (front ++ b ∷ []) (ts ++ new) h;
+      ended = subst (λ m. AllByRecursion (HasEnded m) (ts ++ new)) (sym long)
+          (each_joined (HasEnded (n + 1)) ts new ended ((λ x. omega (arith, x)), tt));
+      no_other = late c (front ++ b ∷ []) (ts ++ new) h;
+    }
 
 -- an opening bracket past the limit
 too_deep : (now : Reading) (front bytes : List ℕ) (ts : List Span) (k b : ℕ) (bracket : Bracket) (q : Place) → IsReadable now → k < length bytes → k ≡ length front → take (k + 1) bytes ≡ front ++ b ∷ [] → level_in now.place.want now.place.around ≡ level_limit
@@ -229,11 +253,14 @@ too_deep now front bytes ts k b bracket q v within k_is behind full moves h =
     let step : move (gap q (n + 1)) true (with_token (opens bracket) n (n + 1) []) ≡ moved_at (Some here) b = sym (moves h.start n) ∙ ap (λ c. moved_at c b) (seen_is now h.start n) in
     let waits = awaits_seen now front ts h in
     let next = (takes_on here (record { word = None; place = q; from = n + 1; at = n + 1 }) b (with_token (opens bracket) n (n + 1) []) (seen_valid now h.start n v) step).0 front ts waits in
-    let goes_on = alive (record { word = None; place = q; from = n + 1; at = n + 1 }) (front ++ b ∷ []) (ts ++ with_token (opens bracket) n (n + 1) []) next in
+    let behind_it : Config = record { word = None; place = q; from = n + 1; at = n + 1 } in
+    let all = front ++ b ∷ [] in
+    let tokens = deeper_tokens behind_it front b ts bracket (within_ended ts n waits.counted.2) next in
     record {
       bracket = bracket;
       within = within;
-      alive = subst (λ (l : List ℕ). BeginsWith l (ts ++ with_token (opens bracket) k (k + 1) [])) (sym behind) (subst (λ j. BeginsWith (front ++ b ∷ []) (ts ++ with_token (opens bracket) j (j + 1) [])) (sym k_is) goes_on);
+      tokens = subst (λ (l : List ℕ). AreTokensOf l (ts ++ with_token (opens bracket) k (k + 1) [])) (sym behind)
+          (subst (λ j. AreTokensOf all (ts ++ with_token (opens bracket) j (j + 1) [])) (sym k_is) tokens);
       full = sym waits.counted.1 ∙ full;
     }
 

@@ -1,14 +1,16 @@
 -- The last entry of each key, put one after another.
-use Rattle.std.proofs.Common.{◌≡◌, cond, List, [], ◌∷◌, ◌++◌, refl, ap, sym, ◌∙◌, append_assoc, append-nil}
+use Rattle.std.proofs.Common.{◌≡◌, ◌≤◌, ℕ, cond, List, [], ◌∷◌, ◌++◌, length, drop, refl, ap, sym, subst, ◌∙◌, append_assoc, append-nil}
+use Rattle.std.proofs.lemmas.List.{drop_all}
 use Rattle.std.specs.declared.cmp.Ordering.{Ordering}
 use Rattle.std.specs.declared.cmp.Ordering.TheVariants.{Less, Equal, Greater}
 use Rattle.std.specs.BTreeMap.{insert_entry}
 use Rattle.std.specs.Ordering.{ordering_reverse, match_ordering, is_lt, is_eq}
-use Rattle.schema.specs.Pairs.{key_cmp, with_item}
+use Rattle.schema.specs.Pairs.{key_cmp, with_item, KeysRise}
 use Rattle.schema.specs.declared.key.Key.{Key}
 use Rattle.schema.specs.declared.value.Item.{Item}
 use Rattle.schema.specs.KeyOrder.{key_back, key_trans, key_congr, key_same}
 use Rattle.wire_format.specs.FieldValues.{if_new, last_entries}
+use Rattle.wire_format.proofs.validity.DecodedItemLemmas.{entries_rise}
 
 -- an entry put in its place
 abbrev pub put_pair : Key × Item → List (Key × Item) → List (Key × Item)
@@ -82,3 +84,9 @@ inserted_step e es xs ys k i Greater p q s h = simp (p, q) refl
 pub inserted : (es : List (Key × Item)) (k : Key) (i : Item) → insert_entry key_cmp es k i ≡ with_item es k i
 inserted [] k i = refl
 inserted (e ∷ es) k i = inserted_step e es (insert_entry key_cmp es k i) (with_item es k i) k i (key_cmp e.0 k) refl (key_back k e.0) (key_same e.0 k) (inserted es k i)
+
+-- where all entries were put, their keys rise
+pub puts_rise : {A : Type 0} (f : List A → List (Key × Item)) (es : List (Key × Item)) (i : ℕ) (xs : List A) → length xs ≤ i → f [] ≡ [] → puts es (f (drop i xs)) ≡ last_entries (f xs) → KeysRise es
+puts_rise f es i xs le none told =
+    let is : es ≡ last_entries (f xs) = sym (ap (puts es) (ap f (drop_all i xs le) ∙ none)) ∙ told in
+    subst KeysRise (sym is) (entries_rise (f xs))

@@ -5,16 +5,16 @@ use Rattle.std.specs.List.{AllByRecursion, flat_map, filter_map, list_any}
 use Rattle.std.proofs.lemmas.List.Concat.{flat_map-cons}
 use Rattle.std.specs.Str.{is_utf8}
 use Rattle.std.proofs.lemmas.Bool.{eqb-true, eqb-false}
-use Rattle.schema.specs.Types.{field_in, fields_of}
-use Rattle.schema.specs.declared.types.fields.Field.{Field}
-use Rattle.schema.specs.declared.types.fields.Kind.{Kind}
-use Rattle.schema.specs.declared.types.fields.Kind.TheVariants.{One as OneOf, Message as MessageOf}
-use Rattle.schema.specs.declared.types.fields.Scalar.{Scalar}
-use Rattle.schema.specs.declared.types.fields.Scalar.TheVariants.{Text as TextOf}
-use Rattle.schema.specs.declared.types.fields.Shape.{Shape}
-use Rattle.schema.specs.declared.types.fields.Shape.TheVariants.{Single, Member, Many as ManyOf, Map as MapOf}
-use Rattle.schema.specs.declared.types.messages.TypeId.{TypeId}
-use Rattle.schema.specs.declared.types.messages.Types.{Types}
+use Rattle.message_types.specs.Types.{field_in, fields_of}
+use Rattle.message_types.specs.declared.fields.Field.{Field}
+use Rattle.message_types.specs.declared.fields.Kind.{Kind}
+use Rattle.message_types.specs.declared.fields.Kind.TheVariants.{One as OneOf, Message as MessageOf}
+use Rattle.message_types.specs.declared.fields.Scalar.{Scalar}
+use Rattle.message_types.specs.declared.fields.Scalar.TheVariants.{Text as TextOf}
+use Rattle.message_types.specs.declared.fields.Shape.{Shape}
+use Rattle.message_types.specs.declared.fields.Shape.TheVariants.{Single, Member, Many as ManyOf, Map as MapOf}
+use Rattle.message_types.specs.declared.messages.TypeId.{TypeId}
+use Rattle.message_types.specs.declared.messages.Types.{Types}
 use Rattle.wire_format.specs.FieldValues.{payloads, sized_of, since, sets_other, counted}
 use Rattle.wire_records.specs.WholeRecords.{AndWhole, AreWhole}
 use Rattle.wire_format.specs.GoodBytes.{IsGoodText, IsGoodItem, IsGoodEntry, IsGoodPayload, IsGoodRecord, AreGoodRecords, AreGood}
@@ -234,9 +234,9 @@ since_good P p [] h = tt
 since_good P p (x ∷ xs) h = since_step P (list_any p (x ∷ xs)) (since p xs) (x ∷ xs) (since_good P p xs h.1) h
 
 -- the records that count are good
-pub counted_good : (inner : List Field → List ℕ → Type 0) (types : Types) (fields : List Field) (n : ℕ) (shape : Shape) (rs : List Record) → AreGoodRecords inner types fields rs → AreGoodRecords inner types fields (counted fields n shape rs)
+pub counted_good : (inner : List Field → List ℕ → Type 0) (types : Types) (fields : List Field) (n : ℕ) (shape : Shape) (rs : List Record) → AreGoodRecords inner types fields rs → AreGoodRecords inner types fields (counted types fields n shape rs)
 counted_good inner types fields n Single rs h = h
-counted_good inner types fields n (Member k) rs h = since_good (λ r. IsGoodRecord inner types (field_in fields r.number) r) (sets_other fields k n) rs h
+counted_good inner types fields n (Member k) rs h = since_good (λ r. IsGoodRecord inner types (field_in fields r.number) r) (sets_other types fields k n) rs h
 counted_good inner types fields n ManyOf rs h = h
 counted_good inner types fields n (MapOf s) rs h = h
 

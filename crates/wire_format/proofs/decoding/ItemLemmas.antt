@@ -1,7 +1,7 @@
 -- Items and slots, opened and rolled; the last of a list; the slots of fields from the back.
 use Rattle.std.proofs.Common.{◌≡◌, ℕ, List, [], ◌∷◌, ◌++◌, length, ◌≢◌, Option, Some, None, refl, ap, sym, ◌∙◌, map}
 use Rattle.std.specs.List.{IsLastAndRest}
-use Rattle.schema.specs.declared.types.fields.Field.{Field}
+use Rattle.message_types.specs.declared.fields.Field.{Field}
 use Rattle.schema.specs.declared.value.Item.{out-Item, roll-Item, roll-out-Item, Item}
 use Rattle.schema.specs.declared.key.Key.{Key}
 use Rattle.schema.specs.declared.value.Item.TheOpen as opened

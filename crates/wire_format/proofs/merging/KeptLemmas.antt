@@ -4,20 +4,20 @@ use Rattle.std.specs.List.{AllByRecursion}
 use Rattle.schema.specs.Apart.{AreApart}
 use Rattle.schema.specs.Layers.{ItemLayer, SlotLayer}
 use Rattle.schema.specs.Soundness.{IsSoundField}
-use Rattle.schema.specs.Types.{field_in, fields_of}
+use Rattle.message_types.specs.Types.{field_in, fields_of}
 use Rattle.schema.specs.Validity.{IsItem, IsSlot, oneofs_in, valid_within, IsValid}
 use Rattle.schema.specs.Value.{RiseFrom, slots_of, slot_in}
 use Rattle.schema.specs.declared.value.Item.TheOpen.{Message, One}
 use Rattle.schema.specs.declared.value.Item.{out-Item, Item}
 use Rattle.schema.specs.declared.value.Slot.{Slot, out-Slot}
 use Rattle.schema.specs.declared.value.Value.{Value}
-use Rattle.schema.specs.declared.types.fields.Field.{Field}
-use Rattle.schema.specs.declared.types.fields.Kind.{Kind}
-use Rattle.schema.specs.declared.types.fields.Kind.TheVariants.{One as OneOf, Message as MessageOf}
-use Rattle.schema.specs.declared.types.fields.Shape.{Shape}
-use Rattle.schema.specs.declared.types.fields.Shape.TheVariants.{Single, Member, Many as ManyOf, Map as MapOf}
-use Rattle.schema.specs.declared.types.messages.TypeId.{TypeId}
-use Rattle.schema.specs.declared.types.messages.Types.{Types}
+use Rattle.message_types.specs.declared.fields.Field.{Field}
+use Rattle.message_types.specs.declared.fields.Kind.{Kind}
+use Rattle.message_types.specs.declared.fields.Kind.TheVariants.{One as OneOf, Message as MessageOf}
+use Rattle.message_types.specs.declared.fields.Shape.{Shape}
+use Rattle.message_types.specs.declared.fields.Shape.TheVariants.{Single, Member, Many as ManyOf, Map as MapOf}
+use Rattle.message_types.specs.declared.messages.TypeId.{TypeId}
+use Rattle.message_types.specs.declared.messages.Types.{Types}
 use Rattle.wire_format.specs.Laws.{HasSoundFields}
 use Rattle.wire_format.specs.CanonicalBytes.{slots_bytes, canonical_within, canonical_bytes}
 use Rattle.wire_format.specs.FieldValues.{payloads, slot_of, meaning_within}
@@ -38,7 +38,7 @@ none_kept inner types nothing shape kind o = by shape
     message (OneOf s) = tt
     message (MessageOf id) = nothing id
 
-    slot : KeepsSlot kind [] o
+    slot : KeepsSlot types kind [] o
     slot h = absurd cc
 
     by : (shape : Shape) → KeepsField inner types shape kind [] o

@@ -2,17 +2,17 @@
 use Rattle.std.proofs.Common.{◌≡◌, ◌≢◌, ◌==◌, ◌&&◌, ◌||◌, ◌+◌, ◌-◌, ℕ, zero, suc, Bool, true, false, cond, List, [], ◌∷◌, ◌++◌, Option, Some, None, Result, Ok, Err, refl, ap, ap₂, sym, ◌∙◌, subst, option_and_then, is_some}
 use Rattle.std.specs.List.{AllByRecursion, list_any}
 use Rattle.std.proofs.lemmas.Bool.{eqb-true, eqb-false, eq-eqb}
-use Rattle.schema.specs.Types.{field_in}
+use Rattle.message_types.specs.Types.{field_in}
 use Rattle.schema.specs.Validity.{oneof_of}
 use Rattle.schema.specs.Value.{slot_in}
 use Rattle.schema.specs.declared.value.Slot.{Slot}
 use Rattle.schema.specs.declared.value.Value.{Value}
-use Rattle.schema.specs.declared.types.fields.Field.{Field}
-use Rattle.schema.specs.declared.types.fields.Kind.{Kind}
-use Rattle.schema.specs.declared.types.fields.Shape.{Shape}
-use Rattle.schema.specs.declared.types.fields.Shape.TheVariants.{Single, Member, Many as ManyOf, Map as MapOf}
-use Rattle.schema.specs.declared.types.messages.TypeId.{TypeId}
-use Rattle.schema.specs.declared.types.messages.Types.{Types}
+use Rattle.message_types.specs.declared.fields.Field.{Field}
+use Rattle.message_types.specs.declared.fields.Kind.{Kind}
+use Rattle.message_types.specs.declared.fields.Shape.{Shape}
+use Rattle.message_types.specs.declared.fields.Shape.TheVariants.{Single, Member, Many as ManyOf, Map as MapOf}
+use Rattle.message_types.specs.declared.messages.TypeId.{TypeId}
+use Rattle.message_types.specs.declared.messages.Types.{Types}
 use Rattle.wire_format.specs.FieldValues.{Inner, payloads, since, counts, in_oneof, counts_in, sets_other, counted, slot_by, slot_of, gather, meaning_within}
 use Rattle.wire_records.specs.WholeRecords.{AndWhole, AreWhole}
 use Rattle.wire_format.specs.GoodBytes.{IsGoodPayload, AreGoodRecords, AreGood}
@@ -123,19 +123,19 @@ other_found fields k q m s (e ∷ es) at ne inside = by (e.0 == m) (eqb-true e.0
     by false p at ih = or_right (cond (e.0 == q) false (is_member k (field_in fields e.0))) (has_other fields k q es) (ih at)
 
 -- where the payload of a record counts for a kind, one of its number does
-one_counts : (rs : List Record) → AllByRecursion (λ (r : Record). (kind : Kind) → counts kind r.payload ≡ true → list_any (counts kind) (payloads r.number rs) ≡ true) rs
-one_counts [] = tt
-one_counts (x ∷ xs) = (
-  λ kind h. let same : (x.number == x.number) ≡ true = eq-eqb x.number x.number refl in rw same (or_left (counts kind x.payload) (list_any (counts kind) (payloads x.number xs)) h),
-  behind xs (one_counts xs),
+one_counts : (types : Types) (rs : List Record) → AllByRecursion (λ (r : Record). (kind : Kind) → counts types kind r.payload ≡ true → list_any (counts types kind) (payloads r.number rs) ≡ true) rs
+one_counts types [] = tt
+one_counts types (x ∷ xs) = (
+  λ kind h. let same : (x.number == x.number) ≡ true = eq-eqb x.number x.number refl in rw same (or_left (counts types kind x.payload) (list_any (counts types kind) (payloads x.number xs)) h),
+  behind xs (one_counts types xs),
 )
   where
-    by : (b : Bool) (kind : Kind) (n : ℕ) → list_any (counts kind) (payloads n xs) ≡ true → list_any (counts kind) (cond b (x.payload ∷ payloads n xs) (payloads n xs)) ≡ true
-    by true kind n h = or_right (counts kind x.payload) (list_any (counts kind) (payloads n xs)) h
+    by : (b : Bool) (kind : Kind) (n : ℕ) → list_any (counts types kind) (payloads n xs) ≡ true → list_any (counts types kind) (cond b (x.payload ∷ payloads n xs) (payloads n xs)) ≡ true
+    by true kind n h = or_right (counts types kind x.payload) (list_any (counts types kind) (payloads n xs)) h
     by false kind n h = h
 
-    behind : (rs : List Record) → AllByRecursion (λ (r : Record). (kind : Kind) → counts kind r.payload ≡ true → list_any (counts kind) (payloads r.number xs) ≡ true) rs
-        → AllByRecursion (λ (r : Record). (kind : Kind) → counts kind r.payload ≡ true → list_any (counts kind) (payloads r.number (x ∷ xs)) ≡ true) rs
+    behind : (rs : List Record) → AllByRecursion (λ (r : Record). (kind : Kind) → counts types kind r.payload ≡ true → list_any (counts types kind) (payloads r.number xs) ≡ true) rs
+        → AllByRecursion (λ (r : Record). (kind : Kind) → counts types kind r.payload ≡ true → list_any (counts types kind) (payloads r.number (x ∷ xs)) ≡ true) rs
     behind [] h = tt
     behind (r ∷ rs) h = ((λ kind c. by (x.number == r.number) kind r.number (h.0 kind c)), behind rs h.1)
 
@@ -159,70 +159,70 @@ module _ (k : ℕ) (types : Types) (merges : Merges k types) (fields : List Fiel
 
   -- what is gathered has at the number of a field the slot that records say
   gathered_at : (xs : List Record) (q : ℕ) (f : Field) → field_in fields q ≡ Some f
-      → slot_in (gather (slot_of meaning types fields xs) fields) q ≡ slot_by meaning types f.presence f.shape f.kind (payloads q (counted fields q f.shape xs))
+      → slot_in (gather (slot_of meaning types fields xs) fields) q ≡ slot_by meaning types f.presence f.shape f.kind (payloads q (counted types fields q f.shape xs))
   gathered_at xs q f known =
       slot_in_gather (slot_of meaning types fields xs) fields q
-      ∙ ap (λ (o : Option Field). cond (is_some o) (option_and_then (λ (g : Field). slot_by meaning types g.presence g.shape g.kind (payloads q (counted fields q g.shape xs))) o) None) known
+      ∙ ap (λ (o : Option Field). cond (is_some o) (option_and_then (λ (g : Field). slot_by meaning types g.presence g.shape g.kind (payloads q (counted types fields q g.shape xs))) o) None) known
 
-  slot_known : (xs : List Record) (q : ℕ) (f : Field) → field_in fields q ≡ Some f → slot_of meaning types fields xs q ≡ slot_by meaning types f.presence f.shape f.kind (payloads q (counted fields q f.shape xs))
-  slot_known xs q f known = ap (option_and_then (λ (g : Field). slot_by meaning types g.presence g.shape g.kind (payloads q (counted fields q g.shape xs)))) known
+  slot_known : (xs : List Record) (q : ℕ) (f : Field) → field_in fields q ≡ Some f → slot_of meaning types fields xs q ≡ slot_by meaning types f.presence f.shape f.kind (payloads q (counted types fields q f.shape xs))
+  slot_known xs q f known = ap (option_and_then (λ (g : Field). slot_by meaning types g.presence g.shape g.kind (payloads q (counted types fields q g.shape xs)))) known
 
   -- ---- where there is another member, a record sets it
 
-  others_set : (j q : ℕ) (es : List (ℕ × Slot)) → AllByRecursion (λ (e : ℕ × Slot). slot_of meaning types fields more e.0 ≡ Some e.1) es → has_other fields j q es ≡ true → list_any (sets_other fields j q) more ≡ true
+  others_set : (j q : ℕ) (es : List (ℕ × Slot)) → AllByRecursion (λ (e : ℕ × Slot). slot_of meaning types fields more e.0 ≡ Some e.1) es → has_other fields j q es ≡ true → list_any (sets_other types fields j q) more ≡ true
   others_set j q [] has other = absurd cc
   others_set j q (e ∷ es) has other = by (e.0 == q) (eqb-false e.0 q) (is_member j (field_in fields e.0)) refl other (others_set j q es has.1)
     where
-      sets : e.0 ≢ q → is_member j (field_in fields e.0) ≡ true → list_any (sets_other fields j q) more ≡ true
+      sets : e.0 ≢ q → is_member j (field_in fields e.0) ≡ true → list_any (sets_other types fields j q) more ≡ true
       sets ne inside =
           let m = member_is meaning types fields more j e.0 (field_in fields e.0) refl (member_some j (field_in fields e.0) inside) in
           let one = member_counts meaning types fields more j e.0 m e.1 has.0 in
-          some_up (is_counted meaning types e.0 m.field.kind) (sets_other fields j q) (counts_sets meaning types fields more j e.0 q m ne) more
-          (some_since (sets_other fields j e.0) (is_counted meaning types e.0 m.field.kind) more one)
+          some_up (is_counted meaning types e.0 m.field.kind) (sets_other types fields j q) (counts_sets meaning types fields more j e.0 q m ne) more
+          (some_since (sets_other types fields j e.0) (is_counted meaning types e.0 m.field.kind) more one)
 
-      by : (b : Bool) → (b ≡ false → e.0 ≢ q) → (c : Bool) → is_member j (field_in fields e.0) ≡ c → (cond b false c || has_other fields j q es) ≡ true → (has_other fields j q es ≡ true → list_any (sets_other fields j q) more ≡ true)
-          → list_any (sets_other fields j q) more ≡ true
+      by : (b : Bool) → (b ≡ false → e.0 ≢ q) → (c : Bool) → is_member j (field_in fields e.0) ≡ c → (cond b false c || has_other fields j q es) ≡ true → (has_other fields j q es ≡ true → list_any (sets_other types fields j q) more ≡ true)
+          → list_any (sets_other types fields j q) more ≡ true
       by true p c m other ih = ih other
       by false p true m other ih = sets (p refl) m
       by false p false m other ih = ih other
 
   -- ---- where there is none, no record does
 
-  kept_member : (j : ℕ) (shape : Shape) (kind : Kind) (ps : List Payload) (o : Option Slot) → KeepsField (KeepsAll k types) types shape kind ps o → in_oneof j shape ≡ true → list_any (counts kind) ps ≡ true → o ≢ None
+  kept_member : (j : ℕ) (shape : Shape) (kind : Kind) (ps : List Payload) (o : Option Slot) → KeepsField (KeepsAll k types) types shape kind ps o → in_oneof j shape ≡ true → list_any (counts types kind) ps ≡ true → o ≢ None
   kept_member j (Member i) kind ps o keep inside = keep.0
   kept_member j Single kind ps o keep inside = absurd cc
   kept_member j ManyOf kind ps o keep inside = absurd cc
   kept_member j (MapOf s) kind ps o keep inside = absurd cc
 
-  none_sets : (keep : KeepEach) (j q : ℕ) → has_other fields j q slots_behind ≡ false → (xs : List Record) → AllByRecursion (λ (r : Record). (kind : Kind) → counts kind r.payload ≡ true → list_any (counts kind) (payloads r.number more) ≡ true) xs
-      → AllByRecursion (λ (r : Record). sets_other fields j q r ≡ false) xs
+  none_sets : (keep : KeepEach) (j q : ℕ) → has_other fields j q slots_behind ≡ false → (xs : List Record) → AllByRecursion (λ (r : Record). (kind : Kind) → counts types kind r.payload ≡ true → list_any (counts types kind) (payloads r.number more) ≡ true) xs
+      → AllByRecursion (λ (r : Record). sets_other types fields j q r ≡ false) xs
   none_sets keep j q none [] h = tt
   none_sets keep j q none (r ∷ xs) h = (by (r.number == q) (eqb-false r.number q), none_sets keep j q none xs h.1)
     where
-      clash : (g : Field) → field_in fields r.number ≡ Some g → r.number ≢ q → in_oneof j g.shape ≡ true → counts g.kind r.payload ≡ true → (o : Option Slot) → slot_of meaning types fields more r.number ≡ o → o ≢ None → ⊥
+      clash : (g : Field) → field_in fields r.number ≡ Some g → r.number ≢ q → in_oneof j g.shape ≡ true → counts types g.kind r.payload ≡ true → (o : Option Slot) → slot_of meaning types fields more r.number ≡ o → o ≢ None → ⊥
       clash g known ne inside c None e some = some refl
       clash g known ne inside c (Some s) e some =
           let at : slot_in slots_behind r.number ≡ Some s = gathered_at more r.number g known ∙ sym (slot_known more r.number g known) ∙ e in
           not_both (has_other fields j q slots_behind) none (other_found fields j q r.number s slots_behind at ne (ap (is_member j) known ∙ inside))
 
-      of_field : (g : Field) → field_in fields r.number ≡ Some g → r.number ≢ q → (b c : Bool) → in_oneof j g.shape ≡ b → counts g.kind r.payload ≡ c → (b && c) ≡ false
+      of_field : (g : Field) → field_in fields r.number ≡ Some g → r.number ≢ q → (b c : Bool) → in_oneof j g.shape ≡ b → counts types g.kind r.payload ≡ c → (b && c) ≡ false
       of_field g known ne true true inside c =
           absurd (clash g known ne inside c (slot_of meaning types fields more r.number) refl (kept_member j g.shape g.kind (payloads r.number more) (slot_of meaning types fields more r.number) (keep r.number g known) inside (h.0 g.kind c)))
       of_field g known ne true false inside c = refl
       of_field g known ne false d inside c = refl
 
-      at_field : (o : Option Field) → field_in fields r.number ≡ o → r.number ≢ q → counts_in j o r.payload ≡ false
+      at_field : (o : Option Field) → field_in fields r.number ≡ o → r.number ≢ q → counts_in types j o r.payload ≡ false
       at_field None known ne = refl
-      at_field (Some g) known ne = of_field g known ne (in_oneof j g.shape) (counts g.kind r.payload) refl refl
+      at_field (Some g) known ne = of_field g known ne (in_oneof j g.shape) (counts types g.kind r.payload) refl refl
 
-      by : (b : Bool) → (b ≡ false → r.number ≢ q) → cond b false (counts_in j (field_in fields r.number) r.payload) ≡ false
+      by : (b : Bool) → (b ≡ false → r.number ≢ q) → cond b false (counts_in types j (field_in fields r.number) r.payload) ≡ false
       by true p = refl
       by false p = at_field (field_in fields r.number) refl (p refl)
 
   -- ---- all numbers
 
-  counted_before : (q : ℕ) (f : Field) → field_in fields q ≡ Some f → AllByRecursion (IsGoodPayload (AreGood k types) types f.shape f.kind) (payloads q (counted fields q f.shape rs))
-  counted_before q f known = payloads_good (AreGood k types) types fields q f known (counted fields q f.shape rs) _ (counted_good (AreGood k types) types fields q f.shape rs good) refl
+  counted_before : (q : ℕ) (f : Field) → field_in fields q ≡ Some f → AllByRecursion (IsGoodPayload (AreGood k types) types f.shape f.kind) (payloads q (counted types fields q f.shape rs))
+  counted_before q f known = payloads_good (AreGood k types) types fields q f known (counted types fields q f.shape rs) _ (counted_good (AreGood k types) types fields q f.shape rs good) refl
 
   all_behind : (q : ℕ) (f : Field) → field_in fields q ≡ Some f → AllByRecursion (IsGoodPayload (AreGood k types) types f.shape f.kind) (payloads q more)
   all_behind q f known = payloads_good (AreGood k types) types fields q f known more _ more_good refl
@@ -232,43 +232,43 @@ module _ (k : ℕ) (types : Types) (merges : Merges k types) (fields : List Fiel
     slot ps = slot_by meaning types f.presence f.shape f.kind ps
 
     -- where all records behind count, and those before count as ever
-    all_counted : payloads q (counted fields q f.shape more) ≡ payloads q more → payloads q (counted fields q f.shape (rs ++ more)) ≡ payloads q (counted fields q f.shape rs) ++ payloads q more
-        → slot (payloads q (counted fields q f.shape (rs ++ more))) ≡ merged_slot merge f.kind (slot (payloads q (counted fields q f.shape rs))) (slot (payloads q (counted fields q f.shape more)))
+    all_counted : payloads q (counted types fields q f.shape more) ≡ payloads q more → payloads q (counted types fields q f.shape (rs ++ more)) ≡ payloads q (counted types fields q f.shape rs) ++ payloads q more
+        → slot (payloads q (counted types fields q f.shape (rs ++ more))) ≡ merged_slot merge f.kind (slot (payloads q (counted types fields q f.shape rs))) (slot (payloads q (counted types fields q f.shape more)))
     all_counted same all =
         let kept : KeepsField (KeepsAll k types) types f.shape f.kind (payloads q more) (slot (payloads q more)) =
         subst (KeepsField (KeepsAll k types) types f.shape f.kind (payloads q more)) (slot_known more q f known ∙ ap slot same) (keep q f known) in
         ap slot all
-        ∙ slot_merges k types merges f.presence f.shape f.kind (payloads q (counted fields q f.shape rs)) (payloads q more) (counted_before q f known) (all_behind q f known) kept
-        ∙ ap (λ (o : Option Slot). merged_slot merge f.kind (slot (payloads q (counted fields q f.shape rs))) o) (ap slot (sym same))
+        ∙ slot_merges k types merges f.presence f.shape f.kind (payloads q (counted types fields q f.shape rs)) (payloads q more) (counted_before q f known) (all_behind q f known) kept
+        ∙ ap (λ (o : Option Slot). merged_slot merge f.kind (slot (payloads q (counted types fields q f.shape rs))) o) (ap slot (sym same))
 
     member_merged : (j : ℕ) → f.shape ≡ Member j → (b : Bool) → has_other fields j q slots_behind ≡ b
-        → slot (payloads q (counted fields q f.shape (rs ++ more)))
-        ≡ merged_slot merge f.kind (cond b None (slot (payloads q (counted fields q f.shape rs)))) (slot (payloads q (counted fields q f.shape more)))
+        → slot (payloads q (counted types fields q f.shape (rs ++ more)))
+        ≡ merged_slot merge f.kind (cond b None (slot (payloads q (counted types fields q f.shape rs)))) (slot (payloads q (counted types fields q f.shape more)))
     member_merged j e false none =
-        let sets = none_sets keep j q none more (one_counts more) in
+        let sets = none_sets keep j q none more (one_counts types more) in
         all_counted
-        (ap (λ (x : Shape). payloads q (counted fields q x more)) e ∙ ap (payloads q) (since_all (sets_other fields j q) more sets))
-        (ap (λ (x : Shape). payloads q (counted fields q x (rs ++ more))) e
-        ∙ ap (payloads q) (since_both (sets_other fields j q) rs more sets)
-        ∙ payloads_append q (since (sets_other fields j q) rs) more
-        ∙ ap (λ (x : Shape). payloads q (counted fields q x rs) ++ payloads q more) (sym e))
+        (ap (λ (x : Shape). payloads q (counted types fields q x more)) e ∙ ap (payloads q) (since_all (sets_other types fields j q) more sets))
+        (ap (λ (x : Shape). payloads q (counted types fields q x (rs ++ more))) e
+        ∙ ap (payloads q) (since_both (sets_other types fields j q) rs more sets)
+        ∙ payloads_append q (since (sets_other types fields j q) rs) more
+        ∙ ap (λ (x : Shape). payloads q (counted types fields q x rs) ++ payloads q more) (sym e))
     member_merged j e true other =
         let some = others_set j q slots_behind (gather_all (λ (e : ℕ × Slot). slot_of meaning types fields more e.0 ≡ Some e.1) (slot_of meaning types fields more) fields (λ n s h. h)) other in
-        ap slot (ap (λ (x : Shape). payloads q (counted fields q x (rs ++ more))) e ∙ ap (payloads q) (since_after (sets_other fields j q) rs more some) ∙ ap (λ (x : Shape). payloads q (counted fields q x more)) (sym e))
+        ap slot (ap (λ (x : Shape). payloads q (counted types fields q x (rs ++ more))) e ∙ ap (payloads q) (since_after (sets_other types fields j q) rs more some) ∙ ap (λ (x : Shape). payloads q (counted types fields q x more)) (sym e))
 
-    field_merged : slot (payloads q (counted fields q f.shape (rs ++ more)))
-        ≡ merged_slot merge f.kind (left_slot fields q f.shape slots_behind (slot (payloads q (counted fields q f.shape rs)))) (slot (payloads q (counted fields q f.shape more)))
+    field_merged : slot (payloads q (counted types fields q f.shape (rs ++ more)))
+        ≡ merged_slot merge f.kind (left_slot fields q f.shape slots_behind (slot (payloads q (counted types fields q f.shape rs)))) (slot (payloads q (counted types fields q f.shape more)))
     field_merged = by f.shape refl
       where
-        plain : (shape : Shape) → f.shape ≡ shape → ((xs : List Record) → counted fields q shape xs ≡ xs)
-            → slot (payloads q (counted fields q f.shape (rs ++ more))) ≡ merged_slot merge f.kind (slot (payloads q (counted fields q f.shape rs))) (slot (payloads q (counted fields q f.shape more)))
+        plain : (shape : Shape) → f.shape ≡ shape → ((xs : List Record) → counted types fields q shape xs ≡ xs)
+            → slot (payloads q (counted types fields q f.shape (rs ++ more))) ≡ merged_slot merge f.kind (slot (payloads q (counted types fields q f.shape rs))) (slot (payloads q (counted types fields q f.shape more)))
         plain shape e all =
-            let here : (xs : List Record) → counted fields q f.shape xs ≡ xs = λ xs. ap (λ (x : Shape). counted fields q x xs) e ∙ all xs in
+            let here : (xs : List Record) → counted types fields q f.shape xs ≡ xs = λ xs. ap (λ (x : Shape). counted types fields q x xs) e ∙ all xs in
             all_counted (ap (payloads q) (here more)) (ap (payloads q) (here (rs ++ more)) ∙ payloads_append q rs more ∙ ap (λ (xs : List Record). payloads q xs ++ payloads q more) (sym (here rs)))
 
         by : (shape : Shape) → f.shape ≡ shape
-            → slot (payloads q (counted fields q f.shape (rs ++ more)))
-            ≡ merged_slot merge f.kind (left_slot fields q shape slots_behind (slot (payloads q (counted fields q f.shape rs)))) (slot (payloads q (counted fields q f.shape more)))
+            → slot (payloads q (counted types fields q f.shape (rs ++ more)))
+            ≡ merged_slot merge f.kind (left_slot fields q shape slots_behind (slot (payloads q (counted types fields q f.shape rs)))) (slot (payloads q (counted types fields q f.shape more)))
         by Single e = plain Single e (λ xs. refl)
         by ManyOf e = plain ManyOf e (λ xs. refl)
         by (MapOf s) e = plain (MapOf s) e (λ xs. refl)
@@ -279,7 +279,7 @@ module _ (k : ℕ) (types : Types) (merges : Merges k types) (fields : List Fiel
   slots_merge keep = gather_same (slot_of meaning types fields (rs ++ more)) (slot_merged merge fields slots_before slots_behind) fields (λ q. each q (field_in fields q) refl)
     where
       each : (q : ℕ) (o : Option Field) → field_in fields q ≡ o
-          → option_and_then (λ (f : Field). slot_by meaning types f.presence f.shape f.kind (payloads q (counted fields q f.shape (rs ++ more)))) o
+          → option_and_then (λ (f : Field). slot_by meaning types f.presence f.shape f.kind (payloads q (counted types fields q f.shape (rs ++ more)))) o
           ≡ option_and_then (λ (f : Field). merged_slot merge f.kind (left_slot fields q f.shape slots_behind (slot_in slots_before q)) (slot_in slots_behind q)) o
       each q None e = refl
       each q (Some f) e =

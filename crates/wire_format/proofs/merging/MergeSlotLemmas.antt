@@ -3,21 +3,21 @@ use Rattle.std.proofs.Common.{◌≡◌, ◌≢◌, ℕ, List, [], ◌∷◌, �
 use Rattle.std.specs.List.{AllByRecursion, cons_option}
 use Rattle.std.proofs.lemmas.List.Concat.{flat_map-append}
 use Rattle.schema.specs.Layers.{ItemLayer, SlotLayer}
-use Rattle.schema.specs.Types.{fields_of}
+use Rattle.message_types.specs.Types.{fields_of}
 use Rattle.schema.specs.declared.key.Key.{Key}
 use Rattle.schema.specs.declared.value.Item.TheOpen.{Message, One, Many, Pairs as Entries}
 use Rattle.schema.specs.declared.value.Item.{roll-Item, out-roll-Item, roll-out-Item, Item}
 use Rattle.schema.specs.declared.value.Slot.{Slot, out-Slot, roll-Slot, out-roll-Slot}
 use Rattle.schema.specs.declared.value.Value.{Value}
-use Rattle.schema.specs.declared.types.fields.Kind.{Kind}
-use Rattle.schema.specs.declared.types.fields.Kind.TheVariants.{One as OneOf, Message as MessageOf}
-use Rattle.schema.specs.declared.types.fields.Presence.{Presence}
-use Rattle.schema.specs.declared.types.fields.Presence.TheVariants.{Implicit, Explicit}
-use Rattle.schema.specs.declared.types.fields.Scalar.{Scalar}
-use Rattle.schema.specs.declared.types.fields.Shape.{Shape}
-use Rattle.schema.specs.declared.types.fields.Shape.TheVariants.{Single, Member, Many as ManyOf, Map as MapOf}
-use Rattle.schema.specs.declared.types.messages.TypeId.{TypeId}
-use Rattle.schema.specs.declared.types.messages.Types.{Types}
+use Rattle.message_types.specs.declared.fields.Kind.{Kind}
+use Rattle.message_types.specs.declared.fields.Kind.TheVariants.{One as OneOf, Message as MessageOf}
+use Rattle.message_types.specs.declared.fields.Presence.{Presence}
+use Rattle.message_types.specs.declared.fields.Presence.TheVariants.{Implicit, Explicit}
+use Rattle.message_types.specs.declared.fields.Scalar.{Scalar}
+use Rattle.message_types.specs.declared.fields.Shape.{Shape}
+use Rattle.message_types.specs.declared.fields.Shape.TheVariants.{Single, Member, Many as ManyOf, Map as MapOf}
+use Rattle.message_types.specs.declared.messages.TypeId.{TypeId}
+use Rattle.message_types.specs.declared.messages.Types.{Types}
 use Rattle.wire_format.specs.FieldValues.{last_of, sized_of, one, stored, many, Inner, message_item, singular, items_of, last_entries, if_new, entries_slot, pairs, slot_by, meaning_within}
 use Rattle.wire_format.specs.GoodBytes.{IsGoodItem, IsGoodPayload, AreGood}
 use Rattle.wire_format.specs.KeptFields.{KeepsSlot, KeepsMessage, KeepsField, KeepsAll}
@@ -155,12 +155,12 @@ module _ (k : ℕ) (types : Types) (merges : Merges k types) where
 
   -- the payloads of a singular field
   singular_merged : (kind : Kind) (presence : Presence) (ps qs : List Payload) → AllByRecursion (IsGoodItem (AreGood k types) types kind) ps → AllByRecursion (IsGoodItem (AreGood k types) types kind) qs
-      → KeepsSlot kind qs (option_and_then (stored presence) (singular meaning types kind qs)) → KeepsMessage (KeepsAll k types) types kind qs
+      → KeepsSlot types kind qs (option_and_then (stored presence) (singular meaning types kind qs)) → KeepsMessage (KeepsAll k types) types kind qs
       → option_and_then (stored presence) (singular meaning types kind (ps ++ qs))
       ≡ merged_slot merge kind (option_and_then (stored presence) (singular meaning types kind ps)) (option_and_then (stored presence) (singular meaning types kind qs))
   singular_merged (OneOf s) presence ps qs g h keep inner =
-      ap (λ (is : List ItemLayer). option_and_then (stored presence) (last_of is)) (filter_map-append (scalar_of s) ps qs)
-      ∙ scalars_merged s presence (filter_map (scalar_of s) ps) (filter_map (scalar_of s) qs) (λ some. keep (fits (scalar_of s) qs some))
+      ap (λ (is : List ItemLayer). option_and_then (stored presence) (last_of is)) (filter_map-append (scalar_of types s) ps qs)
+      ∙ scalars_merged s presence (filter_map (scalar_of types s) ps) (filter_map (scalar_of types s) qs) (λ some. keep (fits (scalar_of types s) qs some))
   singular_merged (MessageOf id) presence ps qs g h keep inner =
       ap (λ (cs : List (List ℕ)). option_and_then (stored presence) (message_item meaning (fields_of types id) cs)) (filter_map-append sized_of ps qs)
       ∙ messages_merged id presence (filter_map sized_of ps) (filter_map sized_of qs)
@@ -201,5 +201,5 @@ module _ (k : ℕ) (types : Types) (merges : Merges k types) where
   slot_merges presence ManyOf kind ps qs g h keep = ap many (flat_map-append (items_of meaning types kind) ps qs) ∙ lists_merged kind (flat_map (items_of meaning types kind) ps) (flat_map (items_of meaning types kind) qs)
   slot_merges presence (MapOf s) kind ps qs g h keep =
       let entry = meaning.entry s kind in
-      ap pairs (ap (map entry) (filter_map-append sized_of ps qs) ∙ map-append entry (filter_map sized_of ps) (filter_map sized_of qs))
-      ∙ entries_merged kind (map entry (filter_map sized_of ps)) (map entry (filter_map sized_of qs))
+      ap pairs (ap (filter_map entry) (filter_map-append sized_of ps qs) ∙ filter_map-append entry (filter_map sized_of ps) (filter_map sized_of qs))
+      ∙ entries_merged kind (filter_map entry (filter_map sized_of ps)) (filter_map entry (filter_map sized_of qs))

@@ -1,10 +1,10 @@
 -- Bytes of a message, and behind them others that undo nothing, decode to the merge of both values.
 use Rattle.std.proofs.Common.{◌≡◌, ◌≢◌, ◌++◌, ℕ, zero, suc, List, Option, None, arith, ap, ap₂, sym, ◌∙◌}
-use Rattle.schema.specs.Types.{field_in, fields_of}
+use Rattle.message_types.specs.Types.{field_in, fields_of}
 use Rattle.schema.specs.declared.value.Slot.{Slot}
 use Rattle.schema.specs.declared.value.Value.{Value}
-use Rattle.schema.specs.declared.types.messages.TypeId.{TypeId}
-use Rattle.schema.specs.declared.types.messages.Types.{Types}
+use Rattle.message_types.specs.declared.messages.TypeId.{TypeId}
+use Rattle.message_types.specs.declared.messages.Types.{Types}
 use Rattle.wire_format.specs.Decoding.{DecodesTo}
 use Rattle.wire_format.specs.FieldValues.{slot_of, gather, meaning_within}
 use Rattle.wire_format.specs.GoodBytes.{AreGood}

@@ -2,26 +2,26 @@
 use Rattle.std.proofs.Common.{◌≡◌, ◌≢◌, ◌+◌, ◌-◌, ◌==◌, ◌&&◌, ◌||◌, ℕ, zero, suc, Bool, true, false, List, [], ◌∷◌, ◌++◌, Option, Some, None, Result, Ok, Err, arith, refl, ap, ap₂, sym, ◌∙◌, subst, append_assoc}
 use Rattle.std.specs.Prelude.{unwrap_or}
 use Rattle.std.specs.List.{AllByRecursion}
-use Rattle.std.specs.declared.cmp.Ordering.{Ordering}
-use Rattle.std.specs.declared.cmp.Ordering.TheVariants.{Less, Equal, Greater}
-use Rattle.std.specs.Ordering.{is_lt, ordering_reverse}
+use Rattle.std.specs.declared.cmp.Ordering.TheVariants.{Less, Greater}
+use Rattle.std.specs.Ordering.{ordering_reverse}
 use Rattle.schema.specs.Layers.{ItemLayer}
 use Rattle.schema.specs.Pairs.{key_cmp, KeysRise, KeysRiseFrom}
-use Rattle.schema.specs.Types.{field_in}
+use Rattle.message_types.specs.Types.{field_in}
 use Rattle.schema.specs.Validity.{IsScalarItem, IsItem, key_item, valid_within}
 use Rattle.schema.specs.declared.key.Key.{Key}
 use Rattle.schema.specs.declared.key.Key.TheVariants.{Number as NumberKey, Truth as TruthKey, Text as TextKey}
 use Rattle.schema.specs.declared.value.Item.TheOpen.{Message}
 use Rattle.schema.specs.declared.value.Item.{out-Item, roll-Item, roll-out-Item, Item}
 use Rattle.schema.specs.declared.value.Value.{Value}
-use Rattle.schema.specs.declared.types.fields.Field.{Field}
-use Rattle.schema.specs.declared.types.fields.Kind.{Kind}
-use Rattle.schema.specs.declared.types.fields.Kind.TheVariants.{One as OneOf, Message as MessageOf}
-use Rattle.schema.specs.declared.types.fields.Scalar.{Scalar}
-use Rattle.schema.specs.declared.types.fields.Shape.TheVariants.{Single}
-use Rattle.schema.specs.declared.types.messages.TypeId.{TypeId}
-use Rattle.schema.specs.declared.types.messages.Types.{Types}
+use Rattle.message_types.specs.declared.fields.Field.{Field}
+use Rattle.message_types.specs.declared.fields.Kind.{Kind}
+use Rattle.message_types.specs.declared.fields.Kind.TheVariants.{One as OneOf, Message as MessageOf}
+use Rattle.message_types.specs.declared.fields.Scalar.{Scalar}
+use Rattle.message_types.specs.declared.fields.Shape.TheVariants.{Single}
+use Rattle.message_types.specs.declared.messages.TypeId.{TypeId}
+use Rattle.message_types.specs.declared.messages.Types.{Types}
 use Rattle.schema.specs.KeyOrder.{key_back}
+use Rattle.schema.proofs.Theorems.{lt_is, rises_on}
 use Rattle.wire_format.specs.CanonicalBytes.{wire_of, item_bytes, record_bytes, key_bytes, entry_bytes}
 use Rattle.wire_records.specs.RecordBytes.{tag}
 use Rattle.wire_format.specs.FieldValues.{Inner, payloads, singular, key_of, default_item, entry_by, if_new, last_entries, meaning_within}
@@ -132,15 +132,15 @@ module _ (k : ℕ) (types : Types) (sub : TypeId → Value → List ℕ) (deeper
   abbrev meaning : Inner
   meaning = meaning_within k types
 
-  entry_is : entry_by meaning types s kind (records k 0 (entry_bytes sub s kind e)) ≡ e
+  entry_is : entry_by meaning types s kind (records k 0 (entry_bytes sub s kind e)) ≡ Some e
   entry_is =
       let one : singular meaning types (OneOf s) (payloads 1 (records k 0 (entry_bytes sub s kind e))) ≡ Some (key_item e.0) =
       ap (λ (rs : List Record). singular meaning types (OneOf s) (payloads 1 rs)) entry_records ∙ ap (singular meaning types (OneOf s)) first_found ∙ item_single k types sub deeper (OneOf s) (key_item e.0) key key_fits in
       let two : singular meaning types kind (payloads 2 (records k 0 (entry_bytes sub s kind e))) ≡ Some (out-Item e.1) =
       ap (λ (rs : List Record). singular meaning types kind (payloads 2 rs)) entry_records ∙ ap (singular meaning types kind) second_found ∙ item_single k types sub deeper kind (out-Item e.1) item item_fits in
-      ap₂ (λ (x : Key) (y : Item). (x, y))
-      (ap (λ (o : Option ItemLayer). key_of (unwrap_or o (default_of s))) one ∙ key_again e.0)
-      (ap (λ (o : Option ItemLayer). roll-Item (unwrap_or o (default_item kind))) two ∙ roll-out-Item e.1)
+      ap₂ (λ (x : Key) (y : Item). Some (x, y))
+      (ap (λ (o : Option ItemLayer). key_of (unwrap_or o (default_of types s))) one ∙ key_again e.0)
+      (ap (λ (o : Option ItemLayer). roll-Item (unwrap_or o (default_item types kind))) two ∙ roll-out-Item e.1)
 
   abbrev check : ℕ → Record → Option Fault
   check at r = field_fault (first_fault k types) types k (field_in (entry_fields s kind) r.number) at r
@@ -191,15 +191,6 @@ entry_back k types sub deeper s kind e h l = record {
 }
 
 -- ---- the entries of a map
-
-lt_is : (x : Ordering) → is_lt x ≡ true → x ≡ Less
-lt_is Less h = refl
-lt_is Equal h = absurd cc
-lt_is Greater h = absurd cc
-
-rises_on : (low : Key) (es : List (Key × Item)) → KeysRiseFrom low es → KeysRise es
-rises_on low [] h = tt
-rises_on low (e ∷ es) h = h.1
 
 if_new_first : (e : Key × Item) (es : List (Key × Item)) → KeysRiseFrom e.0 es → if_new e es ≡ e ∷ es
 if_new_first e [] h = refl

@@ -5,12 +5,12 @@ use Rattle.std.proofs.lemmas.Bool.{eqb-true, eq-eqb}
 use Rattle.std.proofs.lemmas.List.Concat.{flat_map-cons}
 use Rattle.wire_format.specs.FieldValues.{payloads}
 use Rattle.wire_records.specs.WholeRecords.{AreWhole}
-use Rattle.wire_records.specs.WireRecord.{Record, Payload, payload_in, record_in, records}
+use Rattle.wire_records.specs.WireRecord.{IsPlainWire, Record, Payload, payload_in, record_in, records}
 use Rattle.wire_records.specs.RecordBytes.{tag}
 use Rattle.std.proofs.lemmas.List.{drop_all}
 use Rattle.wire_records.specs.RecordSteps.{no_record, records_begin}
 use Rattle.wire_records.specs.JoinedRecords.{whole_stable, records_joined, whole_joined}
-use Rattle.wire_records.specs.WrittenRecords.{record_of, piece_of, IsPlainWire, record_read}
+use Rattle.wire_records.specs.WrittenRecords.{record_of, piece_of, record_read}
 use Rattle.base.proofs.EachLemmas.{each_joined}
 
 -- bytes are whole records of one number with these payloads

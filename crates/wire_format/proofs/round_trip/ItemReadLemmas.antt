@@ -3,23 +3,23 @@ use Rattle.std.proofs.Common.{◌≡◌, ◌≤◌, ◌==◌, ◌&&◌, ◌||◌
 use Rattle.std.specs.Str.{IsUtf8, is_utf8}
 use Rattle.std.proofs.lemmas.Str.{is_utf8-from_IsUtf8}
 use Rattle.schema.specs.Layers.{ItemLayer}
-use Rattle.schema.specs.Types.{fields_of}
+use Rattle.message_types.specs.Types.{fields_of}
 use Rattle.schema.specs.Validity.{IsScalarItem, IsItem, IsStored, valid_within}
 use Rattle.schema.specs.declared.key.Key.{Key}
 use Rattle.schema.specs.declared.value.Item.TheOpen.{Number, Truth, Text, Bytes, Message}
 use Rattle.schema.specs.declared.value.Item.{Item}
 use Rattle.schema.specs.declared.value.Value.{Value}
-use Rattle.schema.specs.declared.types.fields.Field.{Field}
-use Rattle.schema.specs.declared.types.fields.Kind.{Kind}
-use Rattle.schema.specs.declared.types.fields.Kind.TheVariants.{One as OneOf, Message as MessageOf}
-use Rattle.schema.specs.declared.types.fields.Presence.{Presence}
-use Rattle.schema.specs.declared.types.fields.Presence.TheVariants.{Implicit, Explicit}
-use Rattle.schema.specs.declared.types.fields.Scalar.{Scalar}
-use Rattle.schema.specs.declared.types.fields.Scalar.TheVariants.{Sint32, Sint64, Fixed32, Fixed64, Sfixed32, Sfixed64, Bool as BoolOf, Text as TextOf, Bytes as BytesOf}
-use Rattle.schema.specs.declared.types.fields.Shape.{Shape}
-use Rattle.schema.specs.declared.types.fields.Shape.TheVariants.{Single, Member, Many as ManyOf, Map as MapOf}
-use Rattle.schema.specs.declared.types.messages.TypeId.{TypeId}
-use Rattle.schema.specs.declared.types.messages.Types.{Types}
+use Rattle.message_types.specs.declared.fields.Field.{Field}
+use Rattle.message_types.specs.declared.fields.Kind.{Kind}
+use Rattle.message_types.specs.declared.fields.Kind.TheVariants.{One as OneOf, Message as MessageOf}
+use Rattle.message_types.specs.declared.fields.Presence.{Presence}
+use Rattle.message_types.specs.declared.fields.Presence.TheVariants.{Implicit, Explicit}
+use Rattle.message_types.specs.declared.fields.Scalar.{Scalar}
+use Rattle.message_types.specs.declared.fields.Scalar.TheVariants.{Sint32, Sint64, Fixed32, Fixed64, Sfixed32, Sfixed64, Bool as BoolOf, Text as TextOf, Bytes as BytesOf}
+use Rattle.message_types.specs.declared.fields.Shape.{Shape}
+use Rattle.message_types.specs.declared.fields.Shape.TheVariants.{Single, Member, Many as ManyOf, Map as MapOf}
+use Rattle.message_types.specs.declared.messages.TypeId.{TypeId}
+use Rattle.message_types.specs.declared.messages.Types.{Types}
 use Rattle.wire_format.specs.CanonicalBytes.{wire_of, item_bytes, entry_bytes}
 use Rattle.wire_records.specs.RecordBytes.{delimited}
 use Rattle.wire_format.specs.FieldValues.{meaning_within, singular, stored, one, items_of, scalar_items}
@@ -27,8 +27,8 @@ use Rattle.wire_format.specs.PayloadLengths.{HasLength, HasItemLength}
 use Rattle.wire_format.specs.Scalars.{scalar_of, scalar_wire}
 use Rattle.wire_records.specs.Varint.{varint}
 use Rattle.wire_format.specs.WireFaults.{Fault, NotUtf8, is_message, entry_fields, payload_fault, first_fault}
-use Rattle.wire_records.specs.WireRecord.{Payload, number, eight, sized, group, four, payload_in}
-use Rattle.wire_records.specs.WrittenRecords.{IsPlainWire, piece_of, sized_piece}
+use Rattle.wire_records.specs.WireRecord.{IsPlainWire, Payload, number, eight, sized, group, four, payload_in}
+use Rattle.wire_records.specs.WrittenRecords.{piece_of, sized_piece}
 use Rattle.wire_format.proofs.round_trip.ScalarLemmas.{number_payload, number_piece, number_back, truth_piece, truth_back}
 
 -- the payload of an item, where `sub` gives the bytes of a message
@@ -69,12 +69,12 @@ module _ (sub : TypeId → Value → List ℕ) where
   scalar_piece s i h l = absurd h
 
   -- a scalar's payload is the scalar
-  pub scalar_back : (s : Scalar) (i : ItemLayer) → IsScalarItem s i → scalar_of s (item_payload sub (OneOf s) i) ≡ Some i
-  scalar_back TextOf (Text t) h = refl
-  scalar_back BytesOf (Bytes b) h = refl
-  scalar_back BoolOf (Truth t) h = truth_back t
-  scalar_back s (Number z) h = number_back s z h
-  scalar_back s i h = absurd h
+  pub scalar_back : (types : Types) (s : Scalar) (i : ItemLayer) → IsScalarItem s i → scalar_of types s (item_payload sub (OneOf s) i) ≡ Some i
+  scalar_back types TextOf (Text t) h = refl
+  scalar_back types BytesOf (Bytes b) h = refl
+  scalar_back types BoolOf (Truth t) h = truth_back types t
+  scalar_back types s (Number z) h = number_back types s z h
+  scalar_back types s i h = absurd h
 
 -- ---- payloads that are no bytes
 
@@ -149,7 +149,7 @@ pub record IsMessageBack (k : ℕ) (types : Types) (id : TypeId) (bytes : List �
 -- these bytes have no fault as an entry of a map, and are this one
 pub record IsEntryBack (k : ℕ) (types : Types) (s : Scalar) (kind : Kind) (bytes : List ℕ) (e : Key × Item) : Type 0 where
   pub room : (k == 0 || (k == 1 && is_message kind)) ≡ false
-  pub value : (meaning_within k types).entry s kind bytes ≡ e
+  pub value : (meaning_within k types).entry s kind bytes ≡ Some e
   pub good : (place : ℕ) → first_fault k types (entry_fields s kind) place bytes ≡ None
 
 -- what is valid in so many levels is read as it was written by `sub`
@@ -171,29 +171,29 @@ module _ (k : ℕ) (types : Types) (sub : TypeId → Value → List ℕ) (deeper
   item_good shape no_map (MessageOf id) (Message v) h l place from = let b = deeper.message id v h l in message_good (first_fault k types) types k place from shape no_map id (sub id v) b.some (b.good from)
   item_good shape no_map (MessageOf id) _ h l place from = absurd h
 
-  scalar_singular : (s : Scalar) (p : Payload) (i : ItemLayer) → scalar_of s p ≡ Some i → singular (meaning_within k types) types (OneOf s) (p ∷ []) ≡ Some i
+  scalar_singular : (s : Scalar) (p : Payload) (i : ItemLayer) → scalar_of types s p ≡ Some i → singular (meaning_within k types) types (OneOf s) (p ∷ []) ≡ Some i
   scalar_singular s p i h = rw h refl
 
   -- it is the item
   pub item_single : (kind : Kind) (i : ItemLayer) → IsItem (valid_within k types) kind i → HasItemLength sub kind i → singular (meaning_within k types) types kind (item_payload sub kind i ∷ []) ≡ Some i
-  item_single (OneOf s) i h l = scalar_singular s (item_payload sub (OneOf s) i) i (scalar_back sub s i h)
+  item_single (OneOf s) i h l = scalar_singular s (item_payload sub (OneOf s) i) i (scalar_back sub types s i h)
   item_single (MessageOf id) (Message v) h l =
       let b = deeper.message id v h l in
       ap (λ (x : Value). Some (Message x)) (ap ((meaning_within k types).message (fields_of types id)) (append-nil (sub id v)) ∙ b.value)
   item_single (MessageOf id) _ h l = absurd h
 
-  plain_items : (s : Scalar) (p : Payload) (i : ItemLayer) → IsPlain p → scalar_of s p ≡ Some i → scalar_items s p ≡ i ∷ []
+  plain_items : (s : Scalar) (p : Payload) (i : ItemLayer) → IsPlain p → scalar_of types s p ≡ Some i → scalar_items types s p ≡ i ∷ []
   plain_items s (sized bs) i h e = absurd h
   plain_items s (number n) i h e = rw e refl
   plain_items s (eight n) i h e = rw e refl
   plain_items s (four n) i h e = rw e refl
   plain_items s group i h e = rw e refl
 
-  scalar_list : (s : Scalar) (i : ItemLayer) → IsScalarItem s i → scalar_items s (item_payload sub (OneOf s) i) ≡ i ∷ []
+  scalar_list : (s : Scalar) (i : ItemLayer) → IsScalarItem s i → scalar_items types s (item_payload sub (OneOf s) i) ≡ i ∷ []
   scalar_list TextOf (Text t) h = refl
   scalar_list BytesOf (Bytes b) h = refl
-  scalar_list BoolOf (Truth t) h = plain_items BoolOf (number (cond t 1 0)) (Truth t) tt (truth_back t)
-  scalar_list s (Number z) h = plain_items s (number_payload s z) (Number z) (number_plain s z) (number_back s z h)
+  scalar_list BoolOf (Truth t) h = plain_items BoolOf (number (cond t 1 0)) (Truth t) tt (truth_back types t)
+  scalar_list s (Number z) h = plain_items s (number_payload s z) (Number z) (number_plain s z) (number_back types s z h)
   scalar_list s i h = absurd h
 
   -- or the one item of a list that is not packed

@@ -4,16 +4,16 @@ use Rattle.std.specs.List.{AllByRecursion}
 use Rattle.std.proofs.lemmas.List.Concat.{flat_map-cons}
 use Rattle.schema.specs.Layers.{SlotLayer}
 use Rattle.schema.specs.Pairs.{entries_of}
-use Rattle.schema.specs.Types.{field_in}
+use Rattle.message_types.specs.Types.{field_in}
 use Rattle.schema.specs.declared.value.Item.TheOpen.{One, Many, Pairs as Entries}
 use Rattle.schema.specs.declared.value.Item.{out-Item, Item}
 use Rattle.schema.specs.declared.value.Slot.{Slot, out-Slot}
 use Rattle.schema.specs.declared.value.Value.{Value}
-use Rattle.schema.specs.declared.types.fields.Field.{Field}
-use Rattle.schema.specs.declared.types.fields.Kind.{Kind}
-use Rattle.schema.specs.declared.types.fields.Shape.{Shape}
-use Rattle.schema.specs.declared.types.fields.Shape.TheVariants.{Single, Member, Many as ManyOf, Map as MapOf}
-use Rattle.schema.specs.declared.types.messages.TypeId.{TypeId}
+use Rattle.message_types.specs.declared.fields.Field.{Field}
+use Rattle.message_types.specs.declared.fields.Kind.{Kind}
+use Rattle.message_types.specs.declared.fields.Shape.{Shape}
+use Rattle.message_types.specs.declared.fields.Shape.TheVariants.{Single, Member, Many as ManyOf, Map as MapOf}
+use Rattle.message_types.specs.declared.messages.TypeId.{TypeId}
 use Rattle.wire_format.specs.CanonicalBytes.{wire_of, item_bytes, record_bytes, entry_bytes, entry_record, items_bytes, records_bytes, slot_bytes, field_bytes, slots_bytes}
 use Rattle.wire_records.specs.RecordBytes.{tag, delimited}
 use Rattle.wire_format.specs.PayloadLengths.{HasLength, HasItemLength, HaveItemLengths, HasSlotLengths, HasFieldLengths, HaveFieldLengths}

@@ -3,17 +3,17 @@ use Rattle.std.proofs.Common.{◌≡◌, ◌≢◌, ◌==◌, ℕ, Bool, true, f
 use Rattle.std.specs.List.{AllByRecursion, cons_option, list_any}
 use Rattle.std.proofs.lemmas.Bool.{eqb-true, eq-eqb}
 use Rattle.schema.specs.Apart.{AreApart}
-use Rattle.schema.specs.Types.{field_in, fields_of}
+use Rattle.message_types.specs.Types.{field_in, fields_of}
 use Rattle.schema.specs.Validity.{oneof_of, oneofs_in}
 use Rattle.schema.specs.Value.{slot_in}
 use Rattle.schema.specs.declared.value.Slot.{Slot}
-use Rattle.schema.specs.declared.types.fields.Field.{Field}
-use Rattle.schema.specs.declared.types.fields.Kind.{Kind}
-use Rattle.schema.specs.declared.types.fields.Kind.TheVariants.{One as OneOf, Message as MessageOf}
-use Rattle.schema.specs.declared.types.fields.Presence.{Presence}
-use Rattle.schema.specs.declared.types.fields.Shape.{Shape}
-use Rattle.schema.specs.declared.types.fields.Shape.TheVariants.{Single, Member, Many as ManyOf, Map as MapOf}
-use Rattle.schema.specs.declared.types.messages.Types.{Types}
+use Rattle.message_types.specs.declared.fields.Field.{Field}
+use Rattle.message_types.specs.declared.fields.Kind.{Kind}
+use Rattle.message_types.specs.declared.fields.Kind.TheVariants.{One as OneOf, Message as MessageOf}
+use Rattle.message_types.specs.declared.fields.Presence.{Presence}
+use Rattle.message_types.specs.declared.fields.Shape.{Shape}
+use Rattle.message_types.specs.declared.fields.Shape.TheVariants.{Single, Member, Many as ManyOf, Map as MapOf}
+use Rattle.message_types.specs.declared.messages.Types.{Types}
 use Rattle.wire_format.specs.FieldValues.{Inner, payloads, since, counts, in_oneof, last_of, sized_of, message_item, singular, stored}
 use Rattle.wire_records.specs.WireRecord.{Record, Payload}
 use Rattle.wire_format.proofs.round_trip.FieldRecordLemmas.{eqb_apart}
@@ -145,8 +145,8 @@ message_some inner fields (c ∷ cs) i h e = absurd cc
 
 module _ (inner : Inner) (types : Types) where
   -- a singular field that has an item has a payload that counts
-  pub singular_some : (kind : Kind) (ps : List Payload) (i : ItemLayer) → singular inner types kind ps ≡ Some i → list_any (counts kind) ps ≡ true
-  singular_some (OneOf s) ps i h = fits (scalar_of s) ps (last_some (filter_map (scalar_of s) ps) i h)
+  pub singular_some : (kind : Kind) (ps : List Payload) (i : ItemLayer) → singular inner types kind ps ≡ Some i → list_any (counts types kind) ps ≡ true
+  singular_some (OneOf s) ps i h = fits (scalar_of types s) ps (last_some (filter_map (scalar_of types s) ps) i h)
   singular_some (MessageOf id) ps i h = fits sized_of ps (message_some inner (fields_of types id) (filter_map sized_of ps) i h)
 
   -- a slot that is stored is of an item

@@ -5,20 +5,20 @@ use Rattle.std.proofs.lemmas.Bool.{eqb-true, eqb-false}
 use Rattle.std.proofs.lemmas.List.Concat.{flat_map-cons}
 use Rattle.schema.specs.Apart.{AreApart}
 use Rattle.schema.specs.Soundness.{IsSound, IsSoundMessage, IsSoundField}
-use Rattle.schema.specs.Types.{field_in, fields_of}
+use Rattle.message_types.specs.Types.{field_in, fields_of}
 use Rattle.schema.specs.Validity.{IsFieldSlot, AreFieldSlots, oneof_of, oneofs_in, valid_within, IsSlot}
 use Rattle.schema.specs.Value.{RiseFrom, slot_in}
 use Rattle.schema.specs.declared.value.Slot.{Slot, out-Slot, roll-out-Slot}
 use Rattle.schema.specs.declared.value.Value.{Value}
-use Rattle.schema.specs.declared.types.fields.Field.{Field}
-use Rattle.schema.specs.declared.types.fields.Kind.{Kind}
-use Rattle.schema.specs.declared.types.fields.Kind.TheVariants.{One as OneOf, Message as MessageOf}
-use Rattle.schema.specs.declared.types.fields.Presence.{Presence}
-use Rattle.schema.specs.declared.types.fields.Shape.{Shape}
-use Rattle.schema.specs.declared.types.fields.Shape.TheVariants.{Single, Member, Many as ManyOf, Map as MapOf}
-use Rattle.schema.specs.declared.types.messages.MessageType.{MessageType}
-use Rattle.schema.specs.declared.types.messages.TypeId.{TypeId}
-use Rattle.schema.specs.declared.types.messages.Types.{Types}
+use Rattle.message_types.specs.declared.fields.Field.{Field}
+use Rattle.message_types.specs.declared.fields.Kind.{Kind}
+use Rattle.message_types.specs.declared.fields.Kind.TheVariants.{One as OneOf, Message as MessageOf}
+use Rattle.message_types.specs.declared.fields.Presence.{Presence}
+use Rattle.message_types.specs.declared.fields.Shape.{Shape}
+use Rattle.message_types.specs.declared.fields.Shape.TheVariants.{Single, Member, Many as ManyOf, Map as MapOf}
+use Rattle.message_types.specs.declared.messages.MessageType.{MessageType}
+use Rattle.message_types.specs.declared.messages.TypeId.{TypeId}
+use Rattle.message_types.specs.declared.messages.Types.{Types}
 use Rattle.wire_format.specs.Laws.{HasSoundFields}
 use Rattle.wire_format.specs.CanonicalBytes.{field_bytes, slots_bytes}
 use Rattle.wire_format.specs.FieldValues.{Inner, payloads, since, counts, in_oneof, counts_in, sets_other, counted, slot_by, slot_of, gather, meaning_within}
@@ -33,7 +33,8 @@ use Rattle.wire_format.proofs.round_trip.ItemReadLemmas.{ReadsBack}
 use Rattle.wire_format.proofs.round_trip.EntryReadLemmas.{IsUnfaulted, no_fault}
 use Rattle.wire_format.proofs.round_trip.MemberLemmas.{since_all, none_since, IsApart, others_apart, oneof_is, not_in_oneof}
 use Rattle.wire_format.proofs.round_trip.SlotReadLemmas.{IsSlotBack, slot_back}
-use Rattle.wire_format.proofs.round_trip.RisingLemmas.{same_slots, gather_rises, slot_in_gather}
+use Rattle.wire_format.proofs.round_trip.RisingLemmas.{gather_rises, slot_in_gather}
+use Rattle.schema.proofs.Theorems.{same_slots}
 use Rattle.base.proofs.EachLemmas.{each_joined}
 
 -- ---- sound fields
@@ -246,41 +247,41 @@ module _ (k : ℕ) (types : Types) (sub : TypeId → Value → List ℕ) (deeper
 
   -- ---- all records of a member of a oneof count
 
-  sets_none : (j q n : ℕ) (f : Field) (r : Record) → field_in fields n ≡ Some f → (n ≢ q → oneof_of (field_in fields n) ≢ Some j) → r.number ≡ n → sets_other fields j q r ≡ false
+  sets_none : (j q n : ℕ) (f : Field) (r : Record) → field_in fields n ≡ Some f → (n ≢ q → oneof_of (field_in fields n) ≢ Some j) → r.number ≡ n → sets_other types fields j q r ≡ false
   sets_none j q n f r known apart is = by (r.number == q) (eqb-false r.number q)
     where
-      by : (b : Bool) → (b ≡ false → r.number ≢ q) → cond b false (counts_in j (field_in fields r.number) r.payload) ≡ false
+      by : (b : Bool) → (b ≡ false → r.number ≢ q) → cond b false (counts_in types j (field_in fields r.number) r.payload) ≡ false
       by true p = refl
       by false p =
           let ne : n ≢ q = λ z. p refl (is ∙ z) in
           let out : in_oneof j f.shape ≡ false = not_in_oneof f j (λ z. apart ne (ap oneof_of known ∙ z)) in
-          ap (λ (o : Option Field). counts_in j o r.payload) (ap (field_in fields) is ∙ known) ∙ ap (λ (b : Bool). b && counts f.kind r.payload) out
+          ap (λ (o : Option Field). counts_in types j o r.payload) (ap (field_in fields) is ∙ known) ∙ ap (λ (b : Bool). b && counts types f.kind r.payload) out
 
   entry_sets_none : (j q n : ℕ) (f : Field) (rs : List Record) → field_in fields n ≡ Some f → (n ≢ q → oneof_of (field_in fields n) ≢ Some j) → AllByRecursion (λ (r : Record). r.number ≡ n) rs
-      → AllByRecursion (λ (r : Record). sets_other fields j q r ≡ false) rs
+      → AllByRecursion (λ (r : Record). sets_other types fields j q r ≡ false) rs
   entry_sets_none j q n f [] known apart h = tt
   entry_sets_none j q n f (r ∷ rs) known apart h = (sets_none j q n f r known apart h.0, entry_sets_none j q n f rs known apart h.1)
 
   -- no record of slots that are apart sets another member of a oneof
-  pub all_set_none : (j q : ℕ) (es : List (ℕ × Slot)) (h : AllByRecursion IsEntry es) → AllByRecursion (IsApart fields j q) es → AllByRecursion (λ (r : Record). sets_other fields j q r ≡ false) (found_records es h)
+  pub all_set_none : (j q : ℕ) (es : List (ℕ × Slot)) (h : AllByRecursion IsEntry es) → AllByRecursion (IsApart fields j q) es → AllByRecursion (λ (r : Record). sets_other types fields j q r ≡ false) (found_records es h)
   all_set_none j q [] h apart = tt
   all_set_none j q (e ∷ es) h apart =
-      each_joined (λ (r : Record). sets_other fields j q r ≡ false) h.0.recs.found (found_records es h.1)
+      each_joined (λ (r : Record). sets_other types fields j q r ≡ false) h.0.recs.found (found_records es h.1)
       (entry_sets_none j q e.0 h.0.field h.0.recs.found h.0.known apart.0 h.0.recs.numbers) (all_set_none j q es h.1 apart.1)
 
   member_counted : (low j q : ℕ) (es : List (ℕ × Slot)) (h : AllByRecursion IsEntry es) (o : Option Slot) → slot_in es q ≡ o → RiseFrom low es → oneof_of (field_in fields q) ≡ Some j → AreApart nat_eq (oneofs_in fields es)
-      → payloads q (since (sets_other fields j q) (found_records es h)) ≡ payloads q (found_records es h)
+      → payloads q (since (sets_other types fields j q) (found_records es h)) ≡ payloads q (found_records es h)
   member_counted low j q es h None at rise member apart =
       let none = no_slot low q es h rise at in
-      none_since (sets_other fields j q) q (found_records es h) none ∙ sym none
+      none_since (sets_other types fields j q) q (found_records es h) none ∙ sym none
   member_counted low j q es h (Some s) at rise member apart =
-      ap (payloads q) (since_all (sets_other fields j q) (found_records es h) (all_set_none j q es h (others_apart fields j q s es at member apart)))
+      ap (payloads q) (since_all (sets_other types fields j q) (found_records es h) (all_set_none j q es h (others_apart fields j q s es at member apart)))
 
   all_counted : (low q : ℕ) (f : Field) (es : List (ℕ × Slot)) (h : AllByRecursion IsEntry es) → RiseFrom low es → field_in fields q ≡ Some f → AreApart nat_eq (oneofs_in fields es)
-      → payloads q (counted fields q f.shape (found_records es h)) ≡ payloads q (found_records es h)
+      → payloads q (counted types fields q f.shape (found_records es h)) ≡ payloads q (found_records es h)
   all_counted low q f es h rise known apart = by f.shape refl
     where
-      by : (shape : Shape) → f.shape ≡ shape → payloads q (counted fields q shape (found_records es h)) ≡ payloads q (found_records es h)
+      by : (shape : Shape) → f.shape ≡ shape → payloads q (counted types fields q shape (found_records es h)) ≡ payloads q (found_records es h)
       by Single e = refl
       by ManyOf e = refl
       by (MapOf s) e = refl
@@ -295,7 +296,7 @@ module _ (k : ℕ) (types : Types) (sub : TypeId → Value → List ℕ) (deeper
       each : (q : ℕ) (o : Option Field) → field_in fields q ≡ o → cond (is_some o) (slot_of meaning types fields (found_records es h) q) None ≡ slot_in es q
       each q None e = sym (known_only q es h e)
       each q (Some f) e =
-          ap (option_and_then (λ (g : Field). slot_by meaning types g.presence g.shape g.kind (payloads q (counted fields q g.shape (found_records es h))))) e
+          ap (option_and_then (λ (g : Field). slot_by meaning types g.presence g.shape g.kind (payloads q (counted types fields q g.shape (found_records es h))))) e
           ∙ ap (slot_by meaning types f.presence f.shape f.kind) (all_counted 0 q f es h rise e apart) ∙ slot_again 0 q f es h rise e
 
   -- slots that are written are read, and have no fault

@@ -1,12 +1,12 @@
 -- Canonical bytes decode to their value.
 use Rattle.std.proofs.Common.{◌≤◌, ◌<◌, ◌^◌, ℕ, zero, suc, List, length, arith, ap, sym}
-use Rattle.schema.specs.Types.{fields_of}
+use Rattle.message_types.specs.Types.{fields_of}
 use Rattle.schema.specs.Validity.{valid_within, IsValid}
 use Rattle.schema.specs.Value.{slots_of}
 use Rattle.schema.specs.declared.value.Slot.{Slot}
 use Rattle.schema.specs.declared.value.Value.{Value}
-use Rattle.schema.specs.declared.types.messages.TypeId.{TypeId}
-use Rattle.schema.specs.declared.types.messages.Types.{Types}
+use Rattle.message_types.specs.declared.messages.TypeId.{TypeId}
+use Rattle.message_types.specs.declared.messages.Types.{Types}
 use Rattle.wire_format.specs.Laws.{HasSoundFields}
 use Rattle.wire_format.specs.CanonicalBytes.{slots_bytes, canonical_within, canonical_bytes}
 use Rattle.wire_format.specs.Decoding.{DecodesTo}

@@ -5,10 +5,11 @@ use Rattle.std.proofs.lemmas.Int.{ints, to_z-of_z}
 use Rattle.schema.specs.Layers.{ItemLayer}
 use Rattle.schema.specs.Validity.{IsWithin, IsInt32, IsInt64, IsScalarItem}
 use Rattle.schema.specs.declared.value.Item.TheOpen.{Number, Truth}
-use Rattle.schema.specs.declared.types.fields.Scalar.{Scalar}
-use Rattle.schema.specs.declared.types.fields.Scalar.TheVariants.{Int32, Int64, Uint32, Uint64, Sint32, Sint64, Fixed32, Fixed64, Sfixed32, Sfixed64, Bool as BoolOf, Text as TextOf, Bytes as BytesOf, Enumeration}
+use Rattle.message_types.specs.declared.fields.Scalar.{Scalar}
+use Rattle.message_types.specs.declared.fields.Scalar.TheVariants.{Int32, Int64, Uint32, Uint64, Sint32, Sint64, Fixed32, Fixed64, Sfixed32, Sfixed64, Bool as BoolOf, Text as TextOf, Bytes as BytesOf, Enumeration}
 use Rattle.wire_records.specs.Varint.{number_in}
 use Rattle.wire_format.specs.CanonicalBytes.{zigzag, number_bytes}
+use Rattle.message_types.specs.declared.messages.Types.{Types}
 use Rattle.wire_format.specs.Scalars.{unzigzag, scalar_of, scalar_wire}
 use Rattle.wire_records.specs.WireRecord.{Payload, number, eight, four, payload_in}
 use Rattle.wire_records.specs.WrittenRecords.{piece_of, varint_piece, four_piece, eight_piece}
@@ -114,21 +115,21 @@ as_number : (x z : ℤ) → x ≡ z → ◌≡◌ {A = Option ItemLayer} (Some (
 as_number x z e = ap (λ (y : ℤ). Some (Number y)) e
 
 -- and the payload is the number
-pub number_back : (s : Scalar) (z : ℤ) → IsScalarItem s (Number z) → scalar_of s (number_payload s z) ≡ Some (Number z)
-number_back Int32 z h = as_number _ z (int32_back z h)
-number_back Int64 z h = as_number _ z (int64_back z h)
-number_back Uint32 z h = as_number _ z (unsigned32_back z h)
-number_back Uint64 z h = as_number _ z (unsigned64_back z h.0)
-number_back Sint32 z h = as_number _ z (zigzag32_back z h)
-number_back Sint64 z h = as_number _ z (zigzag_back z)
-number_back Fixed32 z h = as_number _ z (four_back z h.0)
-number_back Sfixed32 z h = as_number _ z (fixed32_back z h)
-number_back Fixed64 z h = as_number _ z (unsigned64_back z h.0)
-number_back Sfixed64 z h = as_number _ z (int64_back z h)
-number_back (Enumeration id) z h = as_number _ z (int32_back z h)
-number_back BoolOf z h = absurd h
-number_back TextOf z h = absurd h
-number_back BytesOf z h = absurd h
+pub number_back : (types : Types) (s : Scalar) (z : ℤ) → IsScalarItem s (Number z) → scalar_of types s (number_payload s z) ≡ Some (Number z)
+number_back types Int32 z h = as_number _ z (int32_back z h)
+number_back types Int64 z h = as_number _ z (int64_back z h)
+number_back types Uint32 z h = as_number _ z (unsigned32_back z h)
+number_back types Uint64 z h = as_number _ z (unsigned64_back z h.0)
+number_back types Sint32 z h = as_number _ z (zigzag32_back z h)
+number_back types Sint64 z h = as_number _ z (zigzag_back z)
+number_back types Fixed32 z h = as_number _ z (four_back z h.0)
+number_back types Sfixed32 z h = as_number _ z (fixed32_back z h)
+number_back types Fixed64 z h = as_number _ z (unsigned64_back z h.0)
+number_back types Sfixed64 z h = as_number _ z (int64_back z h)
+number_back types (Enumeration id) z h = as_number _ z (int32_back z h)
+number_back types BoolOf z h = absurd h
+number_back types TextOf z h = absurd h
+number_back types BytesOf z h = absurd h
 
 -- a truth value likewise
 pub truth_piece : (t : Bool) → payload_in 0 (cond t 1 0 ∷ []) ≡ Ok (piece_of (number (cond t 1 0)) (cond t 1 0 ∷ []))
@@ -137,6 +138,6 @@ truth_piece true = refl
 truth_piece false = refl
 
 -- a truth value is read again
-pub truth_back : (t : Bool) → scalar_of BoolOf (number (cond t 1 0)) ≡ Some (Truth t)
-truth_back true = refl
-truth_back false = refl
+pub truth_back : (types : Types) (t : Bool) → scalar_of types BoolOf (number (cond t 1 0)) ≡ Some (Truth t)
+truth_back types true = refl
+truth_back types false = refl

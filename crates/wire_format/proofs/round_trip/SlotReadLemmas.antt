@@ -1,6 +1,6 @@
 -- The slot of a field that was written is read again: one item, a list, a map.
 use Rattle.std.proofs.Common.{◌≡◌, ◌≢◌, ◌+◌, ◌-◌, ◌^◌, ◌≤◌, ◌<◌, ◌/◌, ◌%◌, ℕ, ℤ, nat_lt, zero, suc, Bool, true, false, cond, List, [], ◌∷◌, ◌++◌, length, drop, map, Option, Some, None, Ok, arith, refl, ap, ap₂, ◌∙◌, length-append, append-nil, drop_at, flat_map, filter_map, option_and_then}
-use Rattle.std.specs.List.{AllByRecursion}
+use Rattle.std.specs.List.{AllByRecursion, cons_option}
 use Rattle.std.specs.Int.{w32, w64, to_le_bytes, cast_unsigned}
 use Rattle.std.proofs.lemmas.List.Concat.{flat_map-cons}
 use Rattle.schema.specs.Layers.{ItemLayer, SlotLayer}
@@ -11,15 +11,15 @@ use Rattle.schema.specs.declared.value.Item.TheOpen.{Number, Truth, Text, Bytes,
 use Rattle.schema.specs.declared.value.Item.{out-Item, roll-out-Item, Item}
 use Rattle.schema.specs.declared.value.Slot.{roll-Slot}
 use Rattle.schema.specs.declared.value.Value.{Value}
-use Rattle.schema.specs.declared.types.fields.Field.{Field}
-use Rattle.schema.specs.declared.types.fields.Kind.{Kind}
-use Rattle.schema.specs.declared.types.fields.Kind.TheVariants.{One as OneOf, Message as MessageOf}
-use Rattle.schema.specs.declared.types.fields.Scalar.{Scalar}
-use Rattle.schema.specs.declared.types.fields.Scalar.TheVariants.{Fixed32, Fixed64, Sfixed32, Sfixed64, Sint32, Sint64, Bool as BoolOf, Text as TextOf, Bytes as BytesOf}
-use Rattle.schema.specs.declared.types.fields.Shape.{Shape}
-use Rattle.schema.specs.declared.types.fields.Shape.TheVariants.{Single, Member, Many as ManyOf, Map as MapOf}
-use Rattle.schema.specs.declared.types.messages.TypeId.{TypeId}
-use Rattle.schema.specs.declared.types.messages.Types.{Types}
+use Rattle.message_types.specs.declared.fields.Field.{Field}
+use Rattle.message_types.specs.declared.fields.Kind.{Kind}
+use Rattle.message_types.specs.declared.fields.Kind.TheVariants.{One as OneOf, Message as MessageOf}
+use Rattle.message_types.specs.declared.fields.Scalar.{Scalar}
+use Rattle.message_types.specs.declared.fields.Scalar.TheVariants.{Fixed32, Fixed64, Sfixed32, Sfixed64, Sint32, Sint64, Bool as BoolOf, Text as TextOf, Bytes as BytesOf}
+use Rattle.message_types.specs.declared.fields.Shape.{Shape}
+use Rattle.message_types.specs.declared.fields.Shape.TheVariants.{Single, Member, Many as ManyOf, Map as MapOf}
+use Rattle.message_types.specs.declared.messages.TypeId.{TypeId}
+use Rattle.message_types.specs.declared.messages.Types.{Types}
 use Rattle.wire_format.specs.CanonicalBytes.{zigzag, wire_of, number_bytes, item_bytes, record_bytes, entry_bytes, entry_record, items_bytes, records_bytes, slot_bytes}
 use Rattle.wire_records.specs.RecordBytes.{tag, delimited}
 use Rattle.wire_format.specs.FieldValues.{Inner, singular, stored, many, items_of, sized_of, entries_slot, pairs, slot_by, meaning_within}
@@ -71,18 +71,19 @@ packed_fault TextOf place from bs h e = absurd cc
 packed_fault BytesOf place from bs h e = absurd cc
 packed_fault _ place from bs h e = e
 
-module _ (s : Scalar) where
-  elements_skip : (skip : ℕ) (bs : List ℕ) → elements s skip bs ≡ elements s 0 (drop skip bs)
+module _ (types : Types) (s : Scalar) where
+  elements_skip : (skip : ℕ) (bs : List ℕ) → elements types s skip bs ≡ elements types s 0 (drop skip bs)
   elements_skip zero [] = refl
   elements_skip (suc skip) [] = refl
   elements_skip zero (b ∷ bs) = refl
   elements_skip (suc skip) (b ∷ bs) = elements_skip skip bs
 
-  elements_begin : (bytes : List ℕ) (p : Piece) → 1 ≤ length bytes → 1 ≤ p.to → payload_in (scalar_wire s) bytes ≡ Ok p → elements s 0 bytes ≡ option_to_list (scalar_of s p.payload) ++ elements s 0 (drop p.to bytes)
+  elements_begin : (bytes : List ℕ) (p : Piece) → 1 ≤ length bytes → 1 ≤ p.to → payload_in (scalar_wire s) bytes ≡ Ok p → elements types s 0 bytes ≡ option_to_list (scalar_of types s p.payload) ++ elements types s 0 (drop p.to bytes)
   elements_begin [] p l t h = absurd (omega arith)
   elements_begin (b ∷ bs) p l t h =
-      rw (h, drop_one p.to b bs t) (ap (λ (x : List ItemLayer). option_to_list (scalar_of s p.payload) ++ x) (elements_skip (p.to - 1) bs))
+      rw (h, drop_one p.to b bs t) (ap (λ (x : List ItemLayer). option_to_list (scalar_of types s p.payload) ++ x) (elements_skip (p.to - 1) bs))
 
+module _ (s : Scalar) where
   element_skip : (place skip : ℕ) (bs : List ℕ) → element_fault s place skip bs ≡ element_fault s (place + skip) 0 (drop skip bs)
   element_skip place zero [] = refl
   element_skip place (suc skip) [] = refl
@@ -141,15 +142,15 @@ module _ (k : ℕ) (types : Types) (sub : TypeId → Value → List ℕ) (deeper
         }
 
     -- the elements of a packed list are its items
-    elements_back : (is : List Item) → AllByRecursion (λ (i : Item). IsScalarItem s (out-Item i)) is → elements s 0 (flat_map bytes_of is) ≡ map out-Item is
+    elements_back : (is : List Item) → AllByRecursion (λ (i : Item). IsScalarItem s (out-Item i)) is → elements types s 0 (flat_map bytes_of is) ≡ map out-Item is
     elements_back [] h = refl
     elements_back (i ∷ is) h =
         let more = flat_map bytes_of is in
         let x = element_is i more h.0 in
         let p = piece_of (item_payload sub (OneOf s) (out-Item i)) (bytes_of i) in
-        let begun = elements_begin s (bytes_of i ++ more) p x.longer x.some x.read in
-        ap (elements s 0) (flat_map-cons bytes_of i is) ∙ begun
-        ∙ ap₂ (λ (o : Option ItemLayer) (bs : List ℕ). option_to_list o ++ elements s 0 bs) (scalar_back sub s (out-Item i) h.0) x.behind
+        let begun = elements_begin types s (bytes_of i ++ more) p x.longer x.some x.read in
+        ap (elements types s 0) (flat_map-cons bytes_of i is) ∙ begun
+        ∙ ap₂ (λ (o : Option ItemLayer) (bs : List ℕ). option_to_list o ++ elements types s 0 bs) (scalar_back sub types s (out-Item i) h.0) x.behind
         ∙ ap (λ (xs : List ItemLayer). out-Item i ∷ xs) (elements_back is h.1)
 
     -- and none has a fault
@@ -216,7 +217,7 @@ module _ (k : ℕ) (types : Types) (sub : TypeId → Value → List ℕ) (deeper
         → (flat_map (items_of meaning types kind) (sized (items_bytes sub kind is) ∷ []) ≡ map out-Item is) × ((place from : ℕ) → payload_fault fault types k ManyOf kind place from (sized (items_bytes sub kind is)) ≡ None)
     packed_list (MessageOf id) p is n h = absurd p
     packed_list (OneOf s) p is n h = (
-      rw (packable_is s p) (append-nil (elements s 0 (items_bytes sub (OneOf s) is)) ∙ elements_back s p is h),
+      rw (packable_is s p) (append-nil (elements types s 0 (items_bytes sub (OneOf s) is)) ∙ elements_back s p is h),
       λ place from. packed_fault s place from (items_bytes sub (OneOf s) is) p (elements_good s p is from h),
     )
 
@@ -243,9 +244,9 @@ module _ (k : ℕ) (types : Types) (sub : TypeId → Value → List ℕ) (deeper
         (records_one k f.number 2 (delimited (entry_bytes sub s f.kind e)) (sized (entry_bytes sub s f.kind e)) some small sized_plain (sized_piece (entry_bytes sub s f.kind e) l.0), entry_records s es l.1)
 
     entries_again : (s : Scalar) (es : List (Key × Item)) → AllByRecursion ((valid_within k types).entry s f.kind) es → AllByRecursion (λ (e : Key × Item). HasLength (entry_bytes sub s f.kind e)) es
-        → map (meaning.entry s f.kind) (filter_map sized_of (map (λ (e : Key × Item). sized (entry_bytes sub s f.kind e)) es)) ≡ es
+        → filter_map (meaning.entry s f.kind) (filter_map sized_of (map (λ (e : Key × Item). sized (entry_bytes sub s f.kind e)) es)) ≡ es
     entries_again s [] h l = refl
-    entries_again s (e ∷ es) h l = ap₂ (λ (x : Key × Item) (xs : List (Key × Item)). x ∷ xs) (deeper.entry s f.kind e h.0 l.0).value (entries_again s es h.1 l.1)
+    entries_again s (e ∷ es) h l = ap₂ (λ (o : Option (Key × Item)) (xs : List (Key × Item)). cons_option o xs) (deeper.entry s f.kind e h.0 l.0).value (entries_again s es h.1 l.1)
 
     entries_rolled : (es : List (Key × Item)) → es ≢ [] → entries_slot es ≡ Some (roll-Slot (Entries (record { entries = es })))
     entries_rolled [] h = absurd (h refl)

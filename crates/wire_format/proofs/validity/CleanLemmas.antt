@@ -4,16 +4,16 @@ use Rattle.std.specs.List.{AllByRecursion, list_any}
 use Rattle.std.specs.Str.{is_utf8}
 use Rattle.std.proofs.lemmas.Bool.{eqb-true, eqb-false}
 use Rattle.std.proofs.lemmas.List.Concat.{flat_map-cons}
-use Rattle.schema.specs.Types.{field_in, fields_of}
-use Rattle.schema.specs.declared.types.fields.Field.{Field}
-use Rattle.schema.specs.declared.types.fields.Kind.{Kind}
-use Rattle.schema.specs.declared.types.fields.Kind.TheVariants.{One as OneOf, Message as MessageOf}
-use Rattle.schema.specs.declared.types.fields.Scalar.{Scalar}
-use Rattle.schema.specs.declared.types.fields.Scalar.TheVariants.{Text as TextOf}
-use Rattle.schema.specs.declared.types.fields.Shape.{Shape}
-use Rattle.schema.specs.declared.types.fields.Shape.TheVariants.{Single, Member, Many as ManyOf, Map as MapOf}
-use Rattle.schema.specs.declared.types.messages.TypeId.{TypeId}
-use Rattle.schema.specs.declared.types.messages.Types.{Types}
+use Rattle.message_types.specs.Types.{field_in, fields_of}
+use Rattle.message_types.specs.declared.fields.Field.{Field}
+use Rattle.message_types.specs.declared.fields.Kind.{Kind}
+use Rattle.message_types.specs.declared.fields.Kind.TheVariants.{One as OneOf, Message as MessageOf}
+use Rattle.message_types.specs.declared.fields.Scalar.{Scalar}
+use Rattle.message_types.specs.declared.fields.Scalar.TheVariants.{Text as TextOf}
+use Rattle.message_types.specs.declared.fields.Shape.{Shape}
+use Rattle.message_types.specs.declared.fields.Shape.TheVariants.{Single, Member, Many as ManyOf, Map as MapOf}
+use Rattle.message_types.specs.declared.messages.TypeId.{TypeId}
+use Rattle.message_types.specs.declared.messages.Types.{Types}
 use Rattle.wire_format.specs.FieldValues.{since, payloads, sized_of, sets_other, counted}
 use Rattle.wire_records.specs.WholeRecords.{AndWhole, AreWhole}
 use Rattle.wire_format.specs.WireFaults.{as_wire, Fault, Wire, NotUtf8, is_message, entry_fields, payload_fault, field_fault, first_fault}
@@ -184,11 +184,11 @@ since_all P p (x ∷ xs) h = by (list_any p (x ∷ xs)) (since_all P p xs h.1)
     by false g = h
 
 -- what holds of each record holds of each that counts
-pub counted_all : (P : Record → Type 0) (fields : List Field) (n : ℕ) (shape : Shape) (rs : List Record) → AllByRecursion P rs → AllByRecursion P (counted fields n shape rs)
-counted_all P fields n Single rs h = h
-counted_all P fields n (Member k) rs h = since_all P (sets_other fields k n) rs h
-counted_all P fields n ManyOf rs h = h
-counted_all P fields n (MapOf s) rs h = h
+pub counted_all : (P : Record → Type 0) (types : Types) (fields : List Field) (n : ℕ) (shape : Shape) (rs : List Record) → AllByRecursion P rs → AllByRecursion P (counted types fields n shape rs)
+counted_all P types fields n Single rs h = h
+counted_all P types fields n (Member k) rs h = since_all P (sets_other types fields k n) rs h
+counted_all P types fields n ManyOf rs h = h
+counted_all P types fields n (MapOf s) rs h = h
 
 -- a record without a fault whose payload is in range
 abbrev pub IsCleanRecord : ℕ → Types → List Field → Record → Type 0

@@ -5,7 +5,7 @@ use Rattle.schema.specs.Apart.{AreApart}
 use Rattle.schema.specs.Layers.{ItemLayer}
 use Rattle.schema.specs.Pairs.{KeysRise}
 use Rattle.schema.specs.Soundness.{IsSoundField, IsKeyKind, FitsShape}
-use Rattle.schema.specs.Types.{field_in, fields_of}
+use Rattle.message_types.specs.Types.{field_in, fields_of}
 use Rattle.schema.specs.Validity.{IsScalarItem, IsItem, IsStored, IsSlot, IsFieldSlot, AreFieldSlots, oneofs_in, key_item, valid_within, IsValid}
 use Rattle.schema.specs.Value.{RiseFrom}
 use Rattle.schema.specs.declared.key.Key.{Key}
@@ -13,14 +13,14 @@ use Rattle.schema.specs.declared.value.Item.TheOpen.{Message, One, Many, Pairs a
 use Rattle.schema.specs.declared.value.Item.{out-Item, roll-Item, out-roll-Item, Item}
 use Rattle.schema.specs.declared.value.Slot.{Slot, out-Slot, roll-Slot, out-roll-Slot}
 use Rattle.schema.specs.declared.value.Value.{Value}
-use Rattle.schema.specs.declared.types.fields.Field.{Field}
-use Rattle.schema.specs.declared.types.fields.Kind.{Kind}
-use Rattle.schema.specs.declared.types.fields.Kind.TheVariants.{One as OneOf, Message as MessageOf}
-use Rattle.schema.specs.declared.types.fields.Scalar.{Scalar}
-use Rattle.schema.specs.declared.types.fields.Shape.{Shape}
-use Rattle.schema.specs.declared.types.fields.Shape.TheVariants.{Single, Member, Many as ManyOf, Map as MapOf}
-use Rattle.schema.specs.declared.types.messages.TypeId.{TypeId}
-use Rattle.schema.specs.declared.types.messages.Types.{Types}
+use Rattle.message_types.specs.declared.fields.Field.{Field}
+use Rattle.message_types.specs.declared.fields.Kind.{Kind}
+use Rattle.message_types.specs.declared.fields.Kind.TheVariants.{One as OneOf, Message as MessageOf}
+use Rattle.message_types.specs.declared.fields.Scalar.{Scalar}
+use Rattle.message_types.specs.declared.fields.Shape.{Shape}
+use Rattle.message_types.specs.declared.fields.Shape.TheVariants.{Single, Member, Many as ManyOf, Map as MapOf}
+use Rattle.message_types.specs.declared.messages.TypeId.{TypeId}
+use Rattle.message_types.specs.declared.messages.Types.{Types}
 use Rattle.wire_format.specs.Checks.{Decodes}
 use Rattle.wire_format.specs.Decoding.{DecodesTo, decoding, fault_of, unless, value_of}
 use Rattle.wire_format.specs.declared.fault.DecodeFault.{DecodeFault}
@@ -51,7 +51,7 @@ empty_valid (suc k) types id some = record { rising = tt; slots = tt; oneofs = t
 -- what has no fault in so many levels is valid in them
 pub record Validates (k : ℕ) (types : Types) : Type 0 where
   pub message : (k ≡ 0 → ⊥) → (id : TypeId) (cs : List (List ℕ)) → AllByRecursion (IsDeep k types (fields_of types id)) cs → (valid_within k types).message id ((meaning_within k types).message (fields_of types id) (flat_map (λ (q : List ℕ). q) cs))
-  pub entry : (s : Scalar) (kind : Kind) (bytes : List ℕ) → IsKeyKind s → IsDeepEntry k types s kind bytes → (valid_within k types).entry s kind ((meaning_within k types).entry s kind bytes)
+  pub entry : (s : Scalar) (kind : Kind) (bytes : List ℕ) (e : Key × Item) → IsKeyKind s → IsDeepEntry k types s kind bytes → (meaning_within k types).entry s kind bytes ≡ Some e → (valid_within k types).entry s kind e
 
 module _ (k : ℕ) (types : Types) (deeper : Validates k types) where
   abbrev meaning : Inner
@@ -70,15 +70,15 @@ module _ (k : ℕ) (types : Types) (deeper : Validates k types) where
   -- an item of a field that is no map
   singular_valid : (shape : Shape) → ((t : Scalar) → shape ≡ MapOf t → ⊥) → (kind : Kind) (ps : List Payload) (i : ItemLayer) → AllByRecursion (IsCleanPayload k types shape kind) ps → singular meaning types kind ps ≡ Some i → IsItem (valid_within k types) kind i
   singular_valid shape no_map (OneOf s) ps i h e =
-      last_all (IsScalarItem s) (filter_map (scalar_of s) ps) i
-      (each_filtered (IsCleanPayload k types shape (OneOf s)) (IsScalarItem s) (scalar_of s) (λ p y c q. scalar_valid s p y (text_is k types shape s c.place c.from p no_map c.none) c.ranged q) ps h) e
+      last_all (IsScalarItem s) (filter_map (scalar_of types s) ps) i
+      (each_filtered (IsCleanPayload k types shape (OneOf s)) (IsScalarItem s) (scalar_of types s) (λ p y c q. scalar_valid types s p y (text_is k types shape s c.place c.from p no_map c.none) c.ranged q) ps h) e
   singular_valid shape no_map (MessageOf id) ps i h e =
       message_valid id (filter_map sized_of ps) i
       (each_filtered (IsCleanPayload k types shape (MessageOf id)) (IsDeep k types (fields_of types id)) sized_of (λ p bs c q. deep_is k types shape id p bs no_map c q) ps h) e
 
   -- the items of a payload of a list
   payload_items : (kind : Kind) (p : Payload) → IsCleanPayload k types ManyOf kind p → AllByRecursion (IsItem (valid_within k types) kind) (items_of meaning types kind p)
-  payload_items (OneOf s) p c = scalar_items_valid s p (text_is k types ManyOf s c.place c.from p (λ t e. absurd cc) c.none) c.ranged
+  payload_items (OneOf s) p c = scalar_items_valid types s p (text_is k types ManyOf s c.place c.from p (λ t e. absurd cc) c.none) c.ranged
   payload_items (MessageOf id) (sized bs) c =
       let d = deep_is k types ManyOf id (sized bs) bs (λ t e. absurd cc) c refl in
       (subst (λ (x : List ℕ). IsItem (valid_within k types) (MessageOf id) (Message (meaning.message (fields_of types id) x))) (append-nil bs) (deeper.message d.some id (bs ∷ []) (d, tt)), tt)
@@ -105,11 +105,11 @@ module _ (k : ℕ) (types : Types) (deeper : Validates k types) where
           let w : roll-Slot (Entries (record { entries = x ∷ xs })) ≡ t = slot_is _ t e in
           subst (λ (y : Slot). IsSlot (valid_within k types) f (MapOf s) (out-Slot y)) w (subst (IsSlot (valid_within k types) f (MapOf s)) (sym (out-roll-Slot (Entries (record { entries = x ∷ xs })))) (n, r, a))
 
-  map_valid : (f : Field) (s : Scalar) (ps : List Payload) (t : Slot) → IsKeyKind s → AllByRecursion (IsCleanPayload k types (MapOf s) f.kind) ps → pairs (map (meaning.entry s f.kind) (filter_map sized_of ps)) ≡ Some t → IsSlot (valid_within k types) f (MapOf s) (out-Slot t)
+  map_valid : (f : Field) (s : Scalar) (ps : List Payload) (t : Slot) → IsKeyKind s → AllByRecursion (IsCleanPayload k types (MapOf s) f.kind) ps → pairs (filter_map (meaning.entry s f.kind) (filter_map sized_of ps)) ≡ Some t → IsSlot (valid_within k types) f (MapOf s) (out-Slot t)
   map_valid f s ps t key h e =
       let chunks = each_filtered (IsCleanPayload k types (MapOf s) f.kind) (IsDeepEntry k types s f.kind) sized_of (λ p bs c q. deep_entry k types s f.kind p bs c q) ps h in
-      let all = each_mapped_weaker (IsDeepEntry k types s f.kind) ((valid_within k types).entry s f.kind) (meaning.entry s f.kind) (λ bs d. deeper.entry s f.kind bs key d) (filter_map sized_of ps) chunks in
-      entries_valid f s (map (meaning.entry s f.kind) (filter_map sized_of ps)) t (λ z. no_entries (map (meaning.entry s f.kind) (filter_map sized_of ps)) z e) all e
+      let all = each_filtered (IsDeepEntry k types s f.kind) ((valid_within k types).entry s f.kind) (meaning.entry s f.kind) (λ bs e d q. deeper.entry s f.kind bs e key d q) (filter_map sized_of ps) chunks in
+      entries_valid f s (filter_map (meaning.entry s f.kind) (filter_map sized_of ps)) t (λ z. no_entries (filter_map (meaning.entry s f.kind) (filter_map sized_of ps)) z e) all e
     where
       no_entries : (es : List (Key × Item)) → es ≡ [] → pairs es ≡ Some t → ⊥
       no_entries [] z e = cc
@@ -149,14 +149,14 @@ module _ (k : ℕ) (types : Types) (deeper : Validates k types) where
     field_valid : (n : ℕ) (o : Option Field) (s : Slot) → field_in fields n ≡ o → slot n ≡ Some s → IsFieldSlot (valid_within k types) o s
     field_valid n None s known h = absurd (clash (field_in fields n) known h)
       where
-        clash : (o : Option Field) → o ≡ None → option_and_then (λ (f : Field). slot_by meaning types f.presence f.shape f.kind (payloads n (counted fields n f.shape rs))) o ≡ Some s → ⊥
+        clash : (o : Option Field) → o ≡ None → option_and_then (λ (f : Field). slot_by meaning types f.presence f.shape f.kind (payloads n (counted types fields n f.shape rs))) o ≡ Some s → ⊥
         clash None e g = cc
         clash (Some f) e g = cc
     field_valid n (Some f) s known h =
         let found = field_found types fields n f sound known in
-        slot_valid f f.shape (payloads n (counted fields n f.shape rs)) s (map_key f found.sound)
-        (clean_payloads k types fields n f known (counted fields n f.shape rs) (counted_all (IsCleanRecord k types fields) fields n f.shape rs clean))
-        (ap (option_and_then (λ (f : Field). slot_by meaning types f.presence f.shape f.kind (payloads n (counted fields n f.shape rs)))) (sym known) ∙ h)
+        slot_valid f f.shape (payloads n (counted types fields n f.shape rs)) s (map_key f found.sound)
+        (clean_payloads k types fields n f known (counted types fields n f.shape rs) (counted_all (IsCleanRecord k types fields) types fields n f.shape rs clean))
+        (ap (option_and_then (λ (f : Field). slot_by meaning types f.presence f.shape f.kind (payloads n (counted types fields n f.shape rs)))) (sym known) ∙ h)
 
     -- slots rise by number, fit their fields, and have one member of a oneof at most
     pub record AreValidSlots (es : List (ℕ × Slot)) : Type 0 where
@@ -179,8 +179,8 @@ module _ (k : ℕ) (types : Types) (deeper : Validates k types) where
   single_map : (t : Scalar) → ◌≡◌ {A = Shape} Single (MapOf t) → ⊥
   single_map t z = cc
 
-  default_kind : (kind : Kind) → (is_message kind ≡ true → k ≡ 0 → ⊥) → IsItem (valid_within k types) kind (default_item kind)
-  default_kind (OneOf s) some = default_valid s
+  default_kind : (kind : Kind) → (is_message kind ≡ true → k ≡ 0 → ⊥) → IsItem (valid_within k types) kind (default_item types kind)
+  default_kind (OneOf s) some = default_valid types s
   default_kind (MessageOf id) some = empty_valid k types id (some refl)
 
   part_valid : (fields : List Field) (n : ℕ) (f : Field) → field_in fields n ≡ Some f → f.shape ≡ Single → (rs : List Record) → AllByRecursion (IsCleanRecord k types fields) rs → (default : ItemLayer) → IsItem (valid_within k types) f.kind default
@@ -191,13 +191,16 @@ module _ (k : ℕ) (types : Types) (deeper : Validates k types) where
       by None e = d
       by (Some i) e = singular_valid f.shape (λ t z. single_map t (sym single ∙ z)) f.kind (payloads n rs) i (clean_payloads k types fields n f known rs h) e
 
+  pair_is : (x y : Key × Item) → ◌≡◌ {A = Option (Key × Item)} (Some x) (Some y) → x ≡ y
+  pair_is x y e = cc
+
   -- an entry of a map, one level further out
   entry_valid : (s : Scalar) (kind : Kind) (rs : List Record) → IsKeyKind s → (is_message kind ≡ true → k ≡ 0 → ⊥) → AllByRecursion (IsCleanRecord k types (entry_fields s kind)) rs
-      → IsScalarItem s (key_item (entry_by meaning types s kind rs).0) × IsItem (valid_within k types) kind (out-Item (entry_by meaning types s kind rs).1)
-  entry_valid s kind rs key some h = (
-    key_valid s (unwrap_or (singular meaning types (OneOf s) (payloads 1 rs)) (default_of s)) key (part_valid (entry_fields s kind) 1 (entry_field 1 (OneOf s)) refl refl rs h (default_of s) (default_valid s)),
-    subst (IsItem (valid_within k types) kind) (sym (out-roll-Item (unwrap_or (singular meaning types kind (payloads 2 rs)) (default_item kind))))
-        (part_valid (entry_fields s kind) 2 (entry_field 2 kind) refl refl rs h (default_item kind) (default_kind kind some)),
+      → (e : Key × Item) → entry_by meaning types s kind rs ≡ Some e → IsScalarItem s (key_item e.0) × IsItem (valid_within k types) kind (out-Item e.1)
+  entry_valid s kind rs key some h e q = subst (λ (x : Key × Item). IsScalarItem s (key_item x.0) × IsItem (valid_within k types) kind (out-Item x.1)) (pair_is _ e q) (
+    key_valid s (unwrap_or (singular meaning types (OneOf s) (payloads 1 rs)) (default_of types s)) key (part_valid (entry_fields s kind) 1 (entry_field 1 (OneOf s)) refl refl rs h (default_of types s) (default_valid types s)),
+    subst (IsItem (valid_within k types) kind) (sym (out-roll-Item (unwrap_or (singular meaning types kind (payloads 2 rs)) (default_item types kind))))
+        (part_valid (entry_fields s kind) 2 (entry_field 2 kind) refl refl rs h (default_item types kind) (default_kind kind some)),
   )
 
 -- ---- all levels
@@ -224,16 +227,16 @@ module _ (types : Types) (sound : HasSoundFields types) where
       let v = slots_valid k types deeper (fields_of types id) (fields_sound types id sound) (records k 0 bytes) (clean_records k types (fields_of types id) bytes c) in
       record { rising = v.rising; slots = v.slots; oneofs = v.oneofs }
 
-  entry_level : (k : ℕ) → Validates k types → (s : Scalar) (kind : Kind) (bytes : List ℕ) → IsKeyKind s → IsDeepEntry (suc k) types s kind bytes → (valid_within (suc k) types).entry s kind ((meaning_within (suc k) types).entry s kind bytes)
+  entry_level : (k : ℕ) → Validates k types → (s : Scalar) (kind : Kind) (bytes : List ℕ) (e : Key × Item) → IsKeyKind s → IsDeepEntry (suc k) types s kind bytes → (meaning_within (suc k) types).entry s kind bytes ≡ Some e → (valid_within (suc k) types).entry s kind e
   unfolding valid_within meaning_within
-  entry_level k deeper s kind bytes key d =
-      entry_valid k types deeper s kind (records k 0 bytes) key (room_some k (is_message kind) d.room) (clean_records k types (entry_fields s kind) bytes (clean_is k types (entry_fields s kind) d.none.0 bytes d.all d.none.1))
+  entry_level k deeper s kind bytes e key d q =
+      entry_valid k types deeper s kind (records k 0 bytes) key (room_some k (is_message kind) d.room) (clean_records k types (entry_fields s kind) bytes (clean_is k types (entry_fields s kind) d.none.0 bytes d.all d.none.1)) e q
 
   validates : (k : ℕ) → Validates k types
-  validates zero = record { message = λ nz. absurd (nz refl); entry = λ s kind bytes key d. absurd (no_room (0 == 1 && is_message kind) d.room) }
+  validates zero = record { message = λ nz. absurd (nz refl); entry = λ s kind bytes e key d q. absurd (no_room (0 == 1 && is_message kind) d.room) }
   validates (suc k) = record {
     message = λ nz id cs h. message_level k (validates k) id (flat_map (λ (q : List ℕ). q) cs) (clean_chunks k types (fields_of types id) cs (deep_clean k types (fields_of types id) cs h));
-    entry = λ s kind bytes key d. entry_level k (validates k) s kind bytes key d;
+    entry = λ s kind bytes e key d q. entry_level k (validates k) s kind bytes e key d q;
   }
 
   -- the value that bytes decode to is valid

@@ -16,10 +16,11 @@ use Rattle.schema.specs.declared.key.Key.{Key}
 use Rattle.schema.specs.declared.value.Item.TheOpen.{Number, Truth, Text}
 use Rattle.schema.specs.declared.value.Item.{Item}
 use Rattle.schema.specs.declared.value.Slot.{Slot}
-use Rattle.schema.specs.declared.types.fields.Presence.{Presence}
-use Rattle.schema.specs.declared.types.fields.Presence.TheVariants.{Implicit, Explicit}
-use Rattle.schema.specs.declared.types.fields.Scalar.{Scalar}
-use Rattle.schema.specs.declared.types.fields.Scalar.TheVariants.{Int32, Int64, Uint32, Uint64, Sint32, Sint64, Fixed32, Fixed64, Sfixed32, Sfixed64, Bool as BoolOf, Text as TextOf, Bytes as BytesOf, Enumeration}
+use Rattle.message_types.specs.declared.fields.Presence.{Presence}
+use Rattle.message_types.specs.declared.fields.Presence.TheVariants.{Implicit, Explicit}
+use Rattle.message_types.specs.declared.fields.Scalar.{Scalar}
+use Rattle.message_types.specs.declared.fields.Scalar.TheVariants.{Int32, Int64, Uint32, Uint64, Sint32, Sint64, Fixed32, Fixed64, Sfixed32, Sfixed64, Bool as BoolOf, Text as TextOf, Bytes as BytesOf, Enumeration}
+use Rattle.message_types.specs.declared.messages.Types.{Types}
 use Rattle.schema.specs.KeyOrder.{key_back}
 use Rattle.wire_format.specs.FieldValues.{last_of, stored, one, scalar_items, key_of, if_new, last_entries}
 use Rattle.wire_format.specs.Scalars.{unzigzag, scalar_of, scalar_wire, default_of, and_elements, elements}
@@ -73,39 +74,39 @@ layer_is : (x y : ItemLayer) → ◌≡◌ {A = Option ItemLayer} (Some x) (Some
 layer_is x y e = cc
 
 -- what a payload in range is as a scalar is one
-pub scalar_valid : (s : Scalar) (p : Payload) (i : ItemLayer) → HasText s p → IsRanged p → scalar_of s p ≡ Some i → IsScalarItem s i
-scalar_valid TextOf (sized bs) i h r e = subst (IsScalarItem TextOf) (layer_is _ i e) (IsUtf8-from_is_utf8 bs h)
-scalar_valid BytesOf (sized bs) i h r e = subst (IsScalarItem BytesOf) (layer_is _ i e) tt
-scalar_valid Fixed32 (four n) i h r e = subst (IsScalarItem Fixed32) (layer_is _ i e) (below_32 n r)
-scalar_valid Sfixed32 (four n) i h r e = subst (IsScalarItem Sfixed32) (layer_is _ i e) (signed_32 n r)
-scalar_valid Fixed64 (eight n) i h r e = subst (IsScalarItem Fixed64) (layer_is _ i e) (below_64 n r)
-scalar_valid Sfixed64 (eight n) i h r e = subst (IsScalarItem Sfixed64) (layer_is _ i e) (signed_64 n r)
-scalar_valid Int32 (number n) i h r e = subst (IsScalarItem Int32) (layer_is _ i e) (low_32 n)
-scalar_valid (Enumeration id) (number n) i h r e = subst (IsScalarItem (Enumeration id)) (layer_is _ i e) (low_32 n)
-scalar_valid Sint32 (number n) i h r e = subst (IsScalarItem Sint32) (layer_is _ i e) (zigzag_32 n)
-scalar_valid Uint32 (number n) i h r e = subst (IsScalarItem Uint32) (layer_is _ i e) (below_32 (n % 2 ^ 32) (omega arith))
-scalar_valid Int64 (number n) i h r e = subst (IsScalarItem Int64) (layer_is _ i e) (signed_64 n r)
-scalar_valid Uint64 (number n) i h r e = subst (IsScalarItem Uint64) (layer_is _ i e) (below_64 n r)
-scalar_valid Sint64 (number n) i h r e = subst (IsScalarItem Sint64) (layer_is _ i e) (zigzag_64 n r)
-scalar_valid BoolOf (number n) i h r e = subst (IsScalarItem BoolOf) (layer_is _ i e) tt
-scalar_valid _ _ i h r e = absurd cc
+pub scalar_valid : (types : Types) (s : Scalar) (p : Payload) (i : ItemLayer) → HasText s p → IsRanged p → scalar_of types s p ≡ Some i → IsScalarItem s i
+scalar_valid types TextOf (sized bs) i h r e = subst (IsScalarItem TextOf) (layer_is _ i e) (IsUtf8-from_is_utf8 bs h)
+scalar_valid types BytesOf (sized bs) i h r e = subst (IsScalarItem BytesOf) (layer_is _ i e) tt
+scalar_valid types Fixed32 (four n) i h r e = subst (IsScalarItem Fixed32) (layer_is _ i e) (below_32 n r)
+scalar_valid types Sfixed32 (four n) i h r e = subst (IsScalarItem Sfixed32) (layer_is _ i e) (signed_32 n r)
+scalar_valid types Fixed64 (eight n) i h r e = subst (IsScalarItem Fixed64) (layer_is _ i e) (below_64 n r)
+scalar_valid types Sfixed64 (eight n) i h r e = subst (IsScalarItem Sfixed64) (layer_is _ i e) (signed_64 n r)
+scalar_valid types Int32 (number n) i h r e = subst (IsScalarItem Int32) (layer_is _ i e) (low_32 n)
+scalar_valid types (Enumeration id) (number n) i h r e = subst (IsScalarItem (Enumeration id)) (layer_is _ i e) (low_32 n)
+scalar_valid types Sint32 (number n) i h r e = subst (IsScalarItem Sint32) (layer_is _ i e) (zigzag_32 n)
+scalar_valid types Uint32 (number n) i h r e = subst (IsScalarItem Uint32) (layer_is _ i e) (below_32 (n % 2 ^ 32) (omega arith))
+scalar_valid types Int64 (number n) i h r e = subst (IsScalarItem Int64) (layer_is _ i e) (signed_64 n r)
+scalar_valid types Uint64 (number n) i h r e = subst (IsScalarItem Uint64) (layer_is _ i e) (below_64 n r)
+scalar_valid types Sint64 (number n) i h r e = subst (IsScalarItem Sint64) (layer_is _ i e) (zigzag_64 n r)
+scalar_valid types BoolOf (number n) i h r e = subst (IsScalarItem BoolOf) (layer_is _ i e) tt
+scalar_valid types _ _ i h r e = absurd cc
 
 -- a default is one
-pub default_valid : (s : Scalar) → IsScalarItem s (default_of s)
-default_valid TextOf = IsUtf8-nil
-default_valid BytesOf = tt
-default_valid BoolOf = tt
-default_valid Int32 = (omega (arith, ints), omega (arith, ints))
-default_valid Sint32 = (omega (arith, ints), omega (arith, ints))
-default_valid Sfixed32 = (omega (arith, ints), omega (arith, ints))
-default_valid (Enumeration id) = (omega (arith, ints), omega (arith, ints))
-default_valid Int64 = (omega (arith, ints), omega (arith, ints))
-default_valid Sint64 = (omega (arith, ints), omega (arith, ints))
-default_valid Sfixed64 = (omega (arith, ints), omega (arith, ints))
-default_valid Uint32 = (omega (arith, ints), omega (arith, ints))
-default_valid Fixed32 = (omega (arith, ints), omega (arith, ints))
-default_valid Uint64 = (omega (arith, ints), omega (arith, ints))
-default_valid Fixed64 = (omega (arith, ints), omega (arith, ints))
+pub default_valid : (types : Types) (s : Scalar) → IsScalarItem s (default_of types s)
+default_valid types TextOf = IsUtf8-nil
+default_valid types BytesOf = tt
+default_valid types BoolOf = tt
+default_valid types Int32 = (omega (arith, ints), omega (arith, ints))
+default_valid types Sint32 = (omega (arith, ints), omega (arith, ints))
+default_valid types Sfixed32 = (omega (arith, ints), omega (arith, ints))
+default_valid types (Enumeration id) = (omega (arith, ints), omega (arith, ints))
+default_valid types Int64 = (omega (arith, ints), omega (arith, ints))
+default_valid types Sint64 = (omega (arith, ints), omega (arith, ints))
+default_valid types Sfixed64 = (omega (arith, ints), omega (arith, ints))
+default_valid types Uint32 = (omega (arith, ints), omega (arith, ints))
+default_valid types Fixed32 = (omega (arith, ints), omega (arith, ints))
+default_valid types Uint64 = (omega (arith, ints), omega (arith, ints))
+default_valid types Fixed64 = (omega (arith, ints), omega (arith, ints))
 
 -- a scalar of a key's kind is a key
 pub key_valid : (s : Scalar) (i : ItemLayer) → IsKeyKind s → IsScalarItem s i → IsScalarItem s (key_item (key_of i))
@@ -133,31 +134,31 @@ packed_text : (s : Scalar) (p : Payload) → is_packable s ≡ true → HasText 
 packed_text TextOf p h = absurd cc
 packed_text _ p h = tt
 
-module _ (s : Scalar) (packed : is_packable s ≡ true) where
-  element_step : (b : ℕ) (bs : List ℕ) (x : Result Piece WireKind) → payload_in (scalar_wire s) (b ∷ bs) ≡ x → AllBytes (b ∷ bs) → ((skip : ℕ) → AllByRecursion (IsScalarItem s) (elements s skip bs))
-      → AllByRecursion (IsScalarItem s) (and_elements s x (λ skip. elements s skip bs))
+module _ (types : Types) (s : Scalar) (packed : is_packable s ≡ true) where
+  element_step : (b : ℕ) (bs : List ℕ) (x : Result Piece WireKind) → payload_in (scalar_wire s) (b ∷ bs) ≡ x → AllBytes (b ∷ bs) → ((skip : ℕ) → AllByRecursion (IsScalarItem s) (elements types s skip bs))
+      → AllByRecursion (IsScalarItem s) (and_elements types s x (λ skip. elements types s skip bs))
   element_step b bs (Err e) q h ih = tt
   element_step b bs (Ok p) q h ih =
-      each_joined (IsScalarItem s) (option_to_list (scalar_of s p.payload)) (elements s (p.to - 1) bs)
-      (each_option (IsScalarItem s) (scalar_of s p.payload) (λ i e. scalar_valid s p.payload i (packed_text s p.payload packed) (payload_ranged (scalar_wire s) (b ∷ bs) p h q) e))
+      each_joined (IsScalarItem s) (option_to_list (scalar_of types s p.payload)) (elements types s (p.to - 1) bs)
+      (each_option (IsScalarItem s) (scalar_of types s p.payload) (λ i e. scalar_valid types s p.payload i (packed_text s p.payload packed) (payload_ranged (scalar_wire s) (b ∷ bs) p h q) e))
       (ih (p.to - 1))
 
-  elements_valid : (skip : ℕ) (bytes : List ℕ) → AllBytes bytes → AllByRecursion (IsScalarItem s) (elements s skip bytes)
+  elements_valid : (skip : ℕ) (bytes : List ℕ) → AllBytes bytes → AllByRecursion (IsScalarItem s) (elements types s skip bytes)
   elements_valid skip [] h = tt
   elements_valid (suc skip) (b ∷ bs) h = elements_valid skip bs h.1
   elements_valid zero (b ∷ bs) h = element_step b bs (payload_in (scalar_wire s) (b ∷ bs)) refl h (λ skip. elements_valid skip bs h.1)
 
 -- the items of a scalar payload
-pub scalar_items_valid : (s : Scalar) (p : Payload) → HasText s p → IsRanged p → AllByRecursion (IsScalarItem s) (scalar_items s p)
-scalar_items_valid s (sized bs) h r = by (is_packable s) refl
+pub scalar_items_valid : (types : Types) (s : Scalar) (p : Payload) → HasText s p → IsRanged p → AllByRecursion (IsScalarItem s) (scalar_items types s p)
+scalar_items_valid types s (sized bs) h r = by (is_packable s) refl
   where
-    by : (b : Bool) → is_packable s ≡ b → AllByRecursion (IsScalarItem s) (cond b (elements s 0 bs) (option_to_list (scalar_of s (sized bs))))
-    by true e = elements_valid s e 0 bs r
-    by false e = each_option (IsScalarItem s) (scalar_of s (sized bs)) (λ i q. scalar_valid s (sized bs) i h r q)
-scalar_items_valid s (number n) h r = each_option (IsScalarItem s) (scalar_of s (number n)) (λ i q. scalar_valid s (number n) i h r q)
-scalar_items_valid s (eight n) h r = each_option (IsScalarItem s) (scalar_of s (eight n)) (λ i q. scalar_valid s (eight n) i h r q)
-scalar_items_valid s (four n) h r = each_option (IsScalarItem s) (scalar_of s (four n)) (λ i q. scalar_valid s (four n) i h r q)
-scalar_items_valid s group h r = each_option (IsScalarItem s) (scalar_of s group) (λ i q. scalar_valid s group i h r q)
+    by : (b : Bool) → is_packable s ≡ b → AllByRecursion (IsScalarItem s) (cond b (elements types s 0 bs) (option_to_list (scalar_of types s (sized bs))))
+    by true e = elements_valid types s e 0 bs r
+    by false e = each_option (IsScalarItem s) (scalar_of types s (sized bs)) (λ i q. scalar_valid types s (sized bs) i h r q)
+scalar_items_valid types s (number n) h r = each_option (IsScalarItem s) (scalar_of types s (number n)) (λ i q. scalar_valid types s (number n) i h r q)
+scalar_items_valid types s (eight n) h r = each_option (IsScalarItem s) (scalar_of types s (eight n)) (λ i q. scalar_valid types s (eight n) i h r q)
+scalar_items_valid types s (four n) h r = each_option (IsScalarItem s) (scalar_of types s (four n)) (λ i q. scalar_valid types s (four n) i h r q)
+scalar_items_valid types s group h r = each_option (IsScalarItem s) (scalar_of types s group) (λ i q. scalar_valid types s group i h r q)
 
 -- ---- the entries of a map
 

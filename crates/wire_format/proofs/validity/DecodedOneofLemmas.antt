@@ -3,15 +3,15 @@ use Rattle.std.proofs.Common.{◌≡◌, ◌≢◌, ◌<◌, ◌≤◌, ◌==◌
 use Rattle.std.specs.List.{AllByRecursion, cons_option, list_any}
 use Rattle.std.proofs.lemmas.Bool.{eqb-true, eq-eqb}
 use Rattle.schema.specs.Apart.{AreApart}
-use Rattle.schema.specs.Types.{field_in}
+use Rattle.message_types.specs.Types.{field_in}
 use Rattle.schema.specs.Validity.{oneof_of, oneofs_in}
 use Rattle.schema.specs.Value.{RiseFrom}
 use Rattle.schema.specs.declared.value.Slot.{Slot}
-use Rattle.schema.specs.declared.types.fields.Field.{Field}
-use Rattle.schema.specs.declared.types.fields.Kind.{Kind}
-use Rattle.schema.specs.declared.types.fields.Shape.{Shape}
-use Rattle.schema.specs.declared.types.fields.Shape.TheVariants.{Single, Member, Many as ManyOf, Map as MapOf}
-use Rattle.schema.specs.declared.types.messages.Types.{Types}
+use Rattle.message_types.specs.declared.fields.Field.{Field}
+use Rattle.message_types.specs.declared.fields.Kind.{Kind}
+use Rattle.message_types.specs.declared.fields.Shape.{Shape}
+use Rattle.message_types.specs.declared.fields.Shape.TheVariants.{Single, Member, Many as ManyOf, Map as MapOf}
+use Rattle.message_types.specs.declared.messages.Types.{Types}
 use Rattle.wire_format.specs.FieldValues.{since, payloads, counts, in_oneof, counts_in, sets_other, counted, Inner, singular, slot_by, slot_of}
 use Rattle.wire_records.specs.WireRecord.{Record}
 use Rattle.wire_format.proofs.round_trip.FieldRecordLemmas.{eqb_apart}
@@ -64,9 +64,9 @@ not_both p q a b up vp (x ∷ xs) h g = by (list_any p (x ∷ xs)) (list_any q (
 module _ (inner : Inner) (types : Types) where
   -- a record of number `n` that counts for this kind
   abbrev pub is_counted : ℕ → Kind → Record → Bool
-  is_counted n kind r = r.number == n && counts kind r.payload
+  is_counted n kind r = r.number == n && counts types kind r.payload
 
-  record_some : (n : ℕ) (kind : Kind) (rs : List Record) → list_any (counts kind) (payloads n rs) ≡ true → list_any (is_counted n kind) rs ≡ true
+  record_some : (n : ℕ) (kind : Kind) (rs : List Record) → list_any (counts types kind) (payloads n rs) ≡ true → list_any (is_counted n kind) rs ≡ true
   record_some n kind [] h = h
   record_some n kind (r ∷ rs) h = by (r.number == n) h (record_some n kind rs)
     where
@@ -74,9 +74,9 @@ module _ (inner : Inner) (types : Types) where
       or_up true c d up e = refl
       or_up false c d up e = up e
 
-      by : (b : Bool) → list_any (counts kind) (cond b (r.payload ∷ payloads n rs) (payloads n rs)) ≡ true → (list_any (counts kind) (payloads n rs) ≡ true → list_any (is_counted n kind) rs ≡ true)
-          → ((b && counts kind r.payload) || list_any (is_counted n kind) rs) ≡ true
-      by true h ih = or_up (counts kind r.payload) (list_any (counts kind) (payloads n rs)) (list_any (is_counted n kind) rs) ih h
+      by : (b : Bool) → list_any (counts types kind) (cond b (r.payload ∷ payloads n rs) (payloads n rs)) ≡ true → (list_any (counts types kind) (payloads n rs) ≡ true → list_any (is_counted n kind) rs ≡ true)
+          → ((b && counts types kind r.payload) || list_any (is_counted n kind) rs) ≡ true
+      by true h ih = or_up (counts types kind r.payload) (list_any (counts types kind) (payloads n rs)) (list_any (is_counted n kind) rs) ih h
       by false h ih = ih h
 
   -- ---- the members of a oneof
@@ -106,24 +106,24 @@ module _ (inner : Inner) (types : Types) where
         by (MapOf s) e = absurd (no_member (oneof_of (Some f)) (oneof_is f (MapOf s) e) h)
 
     -- a member that has a slot has a record that counts behind the last that sets another
-    pub member_counts : (n : ℕ) (m : IsMember n) (s : Slot) → slot_of inner types fields rs n ≡ Some s → list_any (is_counted n m.field.kind) (since (sets_other fields k n) rs) ≡ true
+    pub member_counts : (n : ℕ) (m : IsMember n) (s : Slot) → slot_of inner types fields rs n ≡ Some s → list_any (is_counted n m.field.kind) (since (sets_other types fields k n) rs) ≡ true
     member_counts n m s h =
         let f = m.field in
-        let at : slot_by inner types f.presence (Member k) f.kind (payloads n (counted fields n (Member k) rs)) ≡ Some s =
-        ap (λ (x : Shape). slot_by inner types f.presence x f.kind (payloads n (counted fields n x rs))) (sym m.shape)
-        ∙ ap (option_and_then (λ (g : Field). slot_by inner types g.presence g.shape g.kind (payloads n (counted fields n g.shape rs)))) (sym m.known) ∙ h in
-        let i = stored_some inner types f.presence (singular inner types f.kind (payloads n (since (sets_other fields k n) rs))) s at in
-        record_some n f.kind (since (sets_other fields k n) rs) (singular_some inner types f.kind (payloads n (since (sets_other fields k n) rs)) i.0 i.1)
+        let at : slot_by inner types f.presence (Member k) f.kind (payloads n (counted types fields n (Member k) rs)) ≡ Some s =
+        ap (λ (x : Shape). slot_by inner types f.presence x f.kind (payloads n (counted types fields n x rs))) (sym m.shape)
+        ∙ ap (option_and_then (λ (g : Field). slot_by inner types g.presence g.shape g.kind (payloads n (counted types fields n g.shape rs)))) (sym m.known) ∙ h in
+        let i = stored_some inner types f.presence (singular inner types f.kind (payloads n (since (sets_other types fields k n) rs))) s at in
+        record_some n f.kind (since (sets_other types fields k n) rs) (singular_some inner types f.kind (payloads n (since (sets_other types fields k n) rs)) i.0 i.1)
 
     -- such a record sets another than each other number
-    pub counts_sets : (n m : ℕ) (x : IsMember n) → n ≢ m → (r : Record) → is_counted n x.field.kind r ≡ true → sets_other fields k m r ≡ true
+    pub counts_sets : (n m : ℕ) (x : IsMember n) → n ≢ m → (r : Record) → is_counted n x.field.kind r ≡ true → sets_other types fields k m r ≡ true
     counts_sets n m x ne r h =
-        let b = both (r.number == n) (counts x.field.kind r.payload) h in
+        let b = both (r.number == n) (counts types x.field.kind r.payload) h in
         let is : r.number ≡ n = eqb-true r.number n b.0 in
         let other : (r.number == m) ≡ false = eqb_apart r.number m (λ e. ne (sym is ∙ e)) in
         let inside : in_oneof k x.field.shape ≡ true = ap (in_oneof k) x.shape ∙ eq-eqb k k refl in
-        let counts_is : counts_in k (field_in fields r.number) r.payload ≡ true =
-        ap (λ (o : Option Field). counts_in k o r.payload) (ap (field_in fields) is ∙ x.known) ∙ rw (inside, b.1) refl in
+        let counts_is : counts_in types k (field_in fields r.number) r.payload ≡ true =
+        ap (λ (o : Option Field). counts_in types k o r.payload) (ap (field_in fields) is ∙ x.known) ∙ rw (inside, b.1) refl in
         rw other counts_is
       where
         both : (b c : Bool) → (b && c) ≡ true → (b ≡ true) × (c ≡ true)
@@ -134,7 +134,7 @@ module _ (inner : Inner) (types : Types) where
     one_member m n s t ne h g o q =
         let x = member_is m (field_in fields m) refl o in
         let y = member_is n (field_in fields n) refl q in
-        not_both (sets_other fields k m) (sets_other fields k n) (is_counted m x.field.kind) (is_counted n y.field.kind)
+        not_both (sets_other types fields k m) (sets_other types fields k n) (is_counted m x.field.kind) (is_counted n y.field.kind)
         (counts_sets n m y (λ e. ne (sym e))) (counts_sets m n x ne) rs (member_counts m x s h) (member_counts n y t g)
 
   module _ (fields : List Field) (rs : List Record) where

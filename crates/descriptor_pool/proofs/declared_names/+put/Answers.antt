@@ -1,6 +1,6 @@
 use Rattle.std.proofs.Common.{ap, ◌∙◌}
 use Rattle.std.proofs.lemmas.Result.{on_ok_weaker}
-use Rattle.descriptor_set.specs.declared.file_set.MessageInfo.{out-MessageInfo}
+use Rattle.descriptors.specs.declared.file_set.MessageInfo.{out-MessageInfo}
 use Rattle.descriptor_pool.specs.DeclaredNames.{Message, in_scope, message_of}
 use Rattle.descriptor_pool.proofs.DeclaredLemmas.{put_is}
 use Rattle.descriptor_pool.proofs.declared_names.+put.Goals as goal

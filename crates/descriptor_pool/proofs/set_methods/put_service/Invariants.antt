@@ -1,6 +1,6 @@
 use Rattle.std.proofs.Common.{◌≡◌, ◌++◌, drop}
 use Rattle.std.specs.List.{flat_map}
-use Rattle.descriptor_set.specs.declared.file_set.RpcInfo.{RpcInfo}
+use Rattle.descriptors.specs.declared.file_set.RpcInfo.{RpcInfo}
 use Rattle.descriptor_pool.specs.SetMethods.{grpc_path, with_rule}
 use Rattle.descriptor_pool.proofs.set_methods.put_service.Given as goal
 

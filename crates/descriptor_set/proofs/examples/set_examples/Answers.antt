@@ -7,7 +7,7 @@ use Rattle.descriptor_set.specs.SetExamples.{empty_file, set_entry}
 use Rattle.descriptor_set.specs.SetReading.{set_of, set_reading}
 use Rattle.descriptor_set.specs.declared.described.Described.TheVariants.{Set}
 use Rattle.descriptor_set.specs.declared.fault.SetFault.{SetFault}
-use Rattle.descriptor_set.specs.declared.file_set.FileSet.{FileSet}
+use Rattle.descriptors.specs.declared.file_set.FileSet.{FileSet}
 use Rattle.schema.specs.declared.value.Item.TheOpen as opened
 use Rattle.schema.specs.declared.value.Item.TheVariants.{outs-Text, outs-Message, outs-Truth, rolls-Text, rolls-Message, rolls-Truth}
 use Rattle.schema.specs.declared.value.Item.{Item, roll-Item}

@@ -10,6 +10,6 @@ loop-done-preserved g c = record {
   told = gains_more _ _ _ c.args.bytes.now _ c.loop-done.done c.in-Taken.n _ c.loop-done.invariant.told (take_rest c.args.bytes.now c.loop-done.done) c.in-Taken.is c.write.ensures.bytes;
 }
 
-pub returns-in-Failed-clause-prefix : goal.returns-in-Failed-clause-prefix
-returns-in-Failed-clause-prefix g c =
-    (c.loop-done.done, c.loop-done.invariant.within, gains_same _ _ _ _ _ _ c.loop-done.invariant.told c.in-Failed.is c.write.ensures.bytes)
+pub returns-in-Failed-clause-part : goal.returns-in-Failed-clause-part
+returns-in-Failed-clause-part g c =
+    (c.loop-done.done, c.loop-done-test.true, gains_same _ _ _ _ _ _ c.loop-done.invariant.told c.in-Failed.is c.write.ensures.bytes)

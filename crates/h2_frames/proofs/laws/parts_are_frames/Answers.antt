@@ -1,4 +1,4 @@
-use Rattle.h2_frames.proofs.RunLemmas.{run_tells, run_refused, position_after_reads}
+use Rattle.h2_frames.proofs.RunLemmas.{run_tells, run_offset, run_refused, position_after_reads}
 use Rattle.h2_frames.proofs.laws.parts_are_frames.Goals as goal
 
 pub returns-clause-parts : goal.returns-clause-parts
@@ -9,3 +9,6 @@ returns-clause-refused c = run_refused
 
 pub returns-clause-read : goal.returns-clause-read
 returns-clause-read c = position_after_reads
+
+pub returns-clause-offset : goal.returns-clause-offset
+returns-clause-offset c = run_offset

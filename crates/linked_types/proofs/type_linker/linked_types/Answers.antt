@@ -1,5 +1,4 @@
-use Rattle.std.proofs.Common.{◌∙◌, ap, subst, sym}
-use Rattle.linked_types.specs.IndexSteps.{AreIndexesOf}
+use Rattle.std.proofs.Common.{◌∙◌, ap, sym}
 use Rattle.linked_types.specs.LinkedTypes.{linked_enums}
 use Rattle.linked_types.proofs.IndexLemmas.{types_by_indexes}
 use Rattle.linked_types.proofs.type_linker.linked_types.Goals as goal

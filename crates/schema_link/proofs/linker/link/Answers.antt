@@ -1,5 +1,5 @@
 use Rattle.std.proofs.Common.{◌≡◌, ◌<◌, ◌^◌, ◌∙◌, List, [], length, ap, sym, subst}
-use Rattle.descriptor_set.specs.declared.file_set.FileSet.{FileSet}
+use Rattle.descriptors.specs.declared.file_set.FileSet.{FileSet}
 use Rattle.descriptor_pool.specs.DeclaredNames.{Declaration, declarations}
 use Rattle.descriptor_pool.specs.DeclaredTypes.{types_in}
 use Rattle.descriptor_pool.specs.ReachableTypes.{reachable}
@@ -50,3 +50,16 @@ returns-in-Some-clause-sound c =
     subst (λ z. IsServed (types_in (declarations set)) z api) bound
     (subst (λ z. IsServed z ms api) (c.in_ok-types.ensures ∙ ap types_in declared) (rw c.in-Some.is at c.in_ok-api.ensures)) in
     c.what_is_linked_is_sound.ensures set api (none, served)
+
+pub returns-in-Some-clause-linked : goal.returns-in-Some-clause-linked
+returns-in-Some-clause-linked c =
+    let set = c.args.set.now in
+    let ms = c.as_slice-methods.result.now in
+    let api = c.in-Some.api in
+    let declared = c.as_slice-declarations.ensures.value ∙ c.in_ok-all_declarations.ensures in
+    let bound = c.as_slice-methods.ensures.value ∙ c.in_ok-all_methods.ensures in
+    let none = faultless set c.as_slice-declarations.result.now ms declared bound c.in_ok-check_set.ensures in
+    let served =
+    subst (λ z. IsServed (types_in (declarations set)) z api) bound
+    (subst (λ z. IsServed z ms api) (c.in_ok-types.ensures ∙ ap types_in declared) (rw c.in-Some.is at c.in_ok-api.ensures)) in
+    c.what_is_linked_of_a_set_is_linked.ensures set api (none, served)

@@ -1,5 +1,5 @@
 use Rattle.std.proofs.Common.{◌≡◌, ◌++◌, drop, map}
-use Rattle.schema.specs.declared.types.enums.EnumValue.{EnumValue}
+use Rattle.message_types.specs.declared.enums.EnumValue.{EnumValue}
 use Rattle.set_faults.proofs.enum_faults.value_names.Given as goal
 
 abbrev pub invariant-loop-value : goal.invariant-loop-value

@@ -6,4 +6,4 @@ use Rattle.wire_format.proofs.decoding.ItemLemmas.{last_is}
 use Rattle.wire_format.proofs.items.last_scalar.Goals as goal
 
 pub loop-payload-init : goal.loop-payload-init
-loop-payload-init c = record { rest = c.requires; told = last_is (filter_map (scalar_of c.args.scalar) (map payload_of c.args.payloads.now)) }
+loop-payload-init c = record { rest = c.requires; told = last_is (filter_map (scalar_of c.args.types.now c.args.scalar) (map payload_of c.args.payloads.now)) }

@@ -12,5 +12,5 @@ use Rattle.wire_format.proofs.items.last_scalar.Given as goal
 abbrev pub invariant-loop-payload : goal.invariant-loop-payload
 invariant-loop-payload l = record {
   rest : AllByRecursion (IsGoodText l.scalar) (map payload_of (drop l.payload-index l.payloads));
-  told : last_after (option_map out-Item l.last) (filter_map (scalar_of l.scalar) (map payload_of (drop l.payload-index l.payloads))) ≡ last_of (filter_map (scalar_of l.scalar) (map payload_of l.payloads));
+  told : last_after (option_map out-Item l.last) (filter_map (scalar_of l.types l.scalar) (map payload_of (drop l.payload-index l.payloads))) ≡ last_of (filter_map (scalar_of l.types l.scalar) (map payload_of l.payloads));
 }

@@ -9,5 +9,5 @@ decreases-loop-at l = length l.bytes - l.at
 abbrev pub invariant-loop-at : goal.invariant-loop-at
 invariant-loop-at l = record {
   within : l.at ≤ length l.bytes;
-  told : map out-Item l.items ++ elements l.scalar 0 (drop l.at l.bytes) ≡ map out-Item l.initial.items ++ elements l.scalar 0 l.bytes;
+  told : map out-Item l.items ++ elements l.types l.scalar 0 (drop l.at l.bytes) ≡ map out-Item l.initial.items ++ elements l.types l.scalar 0 l.bytes;
 }

@@ -11,5 +11,5 @@ abbrev pub invariant-loop-at : goal.invariant-loop-at
 invariant-loop-at l = record {
   begun : l.start ≤ length l.records;
   within : l.at ≤ length l.records;
-  told : since_or (sets_other l.fields l.oneof l.number) (map raw_of (drop l.start l.records)) (map raw_of (drop l.at l.records)) ≡ since (sets_other l.fields l.oneof l.number) (map raw_of l.records);
+  told : since_or (sets_other l.types l.fields l.oneof l.number) (map raw_of (drop l.start l.records)) (map raw_of (drop l.at l.records)) ≡ since (sets_other l.types l.fields l.oneof l.number) (map raw_of l.records);
 }

@@ -3,7 +3,7 @@ use Rattle.json_events.specs.declared.state.WordState.{WordState}
 use Rattle.json_events.specs.JsonTree.{digits}
 use Rattle.json_events.specs.WordSteps.{mark_of}
 use Rattle.json_events.specs.WordStates.{IsOpen}
-use Rattle.json_events.specs.HeldWords.{HoldsAt, HoldsWord}
+use Rattle.json_events.specs.HeldWords.{HoldsOnly, HoldsWord}
 use Rattle.json_events.specs.NestingSpot.{spot_seen}
 use Rattle.json_events.specs.ReaderState.{Reading, IsReadableWord, IsReadable}
 use Rattle.json_events.specs.ProgressSeen.{reading_of, state_of, from_of}
@@ -15,7 +15,7 @@ is_open : (r : Reading) (l : WordState) → IsReadable r → r.word ≡ Some l �
 is_open r l h e = (subst (λ w. IsReadableWord w r.held r.place.want) e h.word).0
 
 holds : (r : Reading) (l : WordState) → IsReadable r → r.word ≡ Some l → HoldsWord l r.held
-holds r l h e = subst (λ w. HoldsAt w r.held) e h.holds
+holds r l h e = subst (λ w. HoldsOnly w r.held) e h.holds
 
 pub returns-then-not-is_done-clause-fault : goal.returns-then-not-is_done-clause-fault
 returns-then-not-is_done-clause-fault c =

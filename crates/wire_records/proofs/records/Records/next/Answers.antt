@@ -1,4 +1,4 @@
-use Rattle.wire_records.specs.RecordSteps.{tells_first}
+use Rattle.wire_records.proofs.ReaderLemmas.{tells_first}
 use Rattle.wire_records.proofs.records.Records.next.Goals as goal
 
 pub returns : goal.returns
