@@ -3,3 +3,4 @@ pub mod Deframer
 pub mod FeedAnswers
 pub mod DeframerSteps
 pub mod DeframerRuns
+pub mod FrameFaultTexts

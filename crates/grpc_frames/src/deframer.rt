@@ -1,5 +1,5 @@
 //! Taking messages from a stream that comes in any pieces.
-ghost use Rattle.std.specs.Prelude.{◌≡◌, ◌++◌, ◌+◌, ◌<◌, ◌≤◌, ◌-◌, ◌↔◌, ℕ, List, [], length, drop, min, take, IfOk, IfErr, IfSome, IsOk, IsSome, OnOk, OnErr};
+ghost use Rattle.std.specs.Prelude.{◌≡◌, ◌≢◌, ◌++◌, ◌+◌, ◌<◌, ◌≤◌, ◌-◌, ◌↔◌, ℕ, List, [], length, drop, min, take, IfOk, IfErr, IfSome, IsOk, IsSome, OnOk, OnErr};
 ghost use Rattle.grpc_frames.specs.LengthPrefixed.{front, Incomplete};
 ghost use Rattle.base.specs.Saturated.{saturated};
 ghost use Rattle.grpc_frames.specs.Deframer.{Stands, buffered_bytes, IsNoCut};
@@ -109,6 +109,8 @@ impl Deframer {
         ensures ok { OnOk result ((r : List ℕ) → Stands self.now r → EndsBetweenMessages self.now.limit r) }
         ensures err { IfErr result (λ f. (r : List ℕ) → Stands self.now r → IsEndFault self.now.limit r f) }
         ensures sticky { IfSome self.now.refused (λ f. result ≡ Err f) }
+        ensures cut { (place : ℕ) → (result ≡ Err (FrameFault.Cut place))
+            ↔ ((self.now.refused ≡ None) × (self.now.rest ≢ []) × (place ≡ self.now.place)) }
         ensures memory { result ≡ Err FrameFault.NoMemory → self.now.refused ≡ Some FrameFault.NoMemory }
     {
         match self.refused {

@@ -31,6 +31,11 @@ impl From<NoMemory> for FrameFault {
 }
 
 impl fmt::Display for FrameFault {
+    ghost use Rattle.std.specs.Prelude.{Some};
+    ghost use Rattle.grpc_frames.specs.FrameFaultTexts.{frame_fault_text};
+
+    ghost output = { λ fault. Some (frame_fault_text fault) };
+
     fn fmt<W: fmt::Write>(&self, f: &mut fmt::Formatter<W>) -> fmt::Result {
         match self {
             FrameFault::Compressed(place) => write!(f, "compressed message at byte {place}"),
@@ -39,7 +44,7 @@ impl fmt::Display for FrameFault {
                 write!(f, "message of {size} bytes too long at byte {place}")
             }
             FrameFault::Cut(place) => write!(f, "message cut at byte {place}"),
-            FrameFault::NoMemory => write!(f, "out of memory"),
+            FrameFault::NoMemory => fmt::Display::fmt(&NoMemory, f),
         }
     }
 }

@@ -1,12 +1,13 @@
 //! Laws of what is put on a stream and read from it, for callers and for whoever checks the
 //! definitions.
-ghost use Rattle.std.specs.Prelude.{◌≡◌, ◌++◌, ◌<◌, ◌≤◌, ◌^◌, ℕ, List, [], length, Err};
+ghost use Rattle.std.specs.Prelude.{◌≡◌, ◌++◌, ◌<◌, ◌≤◌, ◌^◌, ℕ, List, [], length, Some, Err};
 ghost use Rattle.std.specs.List.{AllByRecursion};
 ghost use Rattle.base.specs.Bytes.{AreBytes};
 ghost use Rattle.base.specs.PiecewiseReading.{FeedCall, IsRun, taken_in_all, told_by_all};
 ghost use Rattle.grpc_frames.specs.declared.deframer.Deframed.{Deframed};
 ghost use Rattle.grpc_frames.specs.declared.fault.FrameFault.{FrameFault};
 ghost use Rattle.grpc_frames.specs.LengthPrefixed.{all_length_prefixed, after_messages, deframed_of, BeginsBy};
+ghost use Rattle.grpc_frames.specs.LengthPrefixed.{FramingError};
 ghost use Rattle.grpc_frames.specs.Deframer.{DeframerState, Stands};
 ghost use Rattle.grpc_frames.specs.DeframerRuns.{deframing, taken_by, IsFirstOf};
 
@@ -33,12 +34,17 @@ pub fn read_messages_are_within_the_limit()
         → AllByRecursion (λ m. length m ≤ limit) (deframed_of limit bytes).messages }
 {}
 
-/// A stream goes on: more bytes keep its messages, and are read behind its rest.
+/// A stream goes on: more bytes keep its messages, and are read behind its rest. An error stays, whatever follows: no
+/// message comes behind it.
 pub fn streams_go_on()
-    ensures { (limit : ℕ) (bytes more : List ℕ)
+    ensures joined { (limit : ℕ) (bytes more : List ℕ)
         → deframed_of limit (bytes ++ more)
         ≡ after_messages (deframed_of limit bytes).messages
         (deframed_of limit ((deframed_of limit bytes).rest ++ more)) }
+    ensures error { (limit : ℕ) (bytes more : List ℕ) (e : FramingError)
+        → (deframed_of limit bytes).error ≡ Some e
+        → deframed_of limit (bytes ++ more)
+        ≡ record { messages = (deframed_of limit bytes).messages; rest = (deframed_of limit bytes).rest ++ more; error = Some e } }
 {}
 
 /// However a stream is given to a deframer, it tells the messages of all bytes that it took, and its

@@ -7,6 +7,7 @@
 #![tactic(auto)]
 
 mod deframer;
+pub mod examples;
 mod fault;
 mod framing;
 pub mod laws;

@@ -3,7 +3,7 @@ use Rattle.std.proofs.Common.{◌≡◌, ◌<◌, ◌≤◌, ◌+◌, ◌-◌, �
 use Rattle.std.proofs.lemmas.List.{take_all, take_min, take-append-drop, get_or-take}
 use Rattle.base.specs.Bytes.{AreBytes}
 use Rattle.base.specs.Saturated.{saturated}
-use Rattle.base.proofs.AreBytesLemmas.{AreBytes-append, AreBytes-drop, AreBytes-take, AreBytes_none}
+use Rattle.base.proofs.AreBytesLemmas.{AreBytes-append, AreBytes_parts, AreBytes-drop, AreBytes-take}
 use Rattle.h2_frames.specs.declared.fault.H2Fault.{H2Fault}
 use Rattle.h2_frames.specs.declared.parts.FrameFed.{FrameFed}
 use Rattle.h2_frames.specs.declared.parts.Part.{Part}
@@ -34,12 +34,24 @@ standing kept p e s = record { by = subst (λ o. StandsBy o kept p) (sym e) s }
 pub stands_at : (kept : Kept) (p : Position) → kept.fault ≡ None → Stands kept p → StandsAt kept p.before p.seen
 stands_at kept p e s = subst (λ o. StandsBy o kept p) e s.by
 
+-- all bytes that came, and more of them
+more_bytes : (before seen more : List ℕ) → AreBytes (before ++ seen) → AreBytes more
+    → AreBytes (before ++ (seen ++ more))
+more_bytes before seen more s k =
+    subst AreBytes (append_assoc before seen more) (AreBytes-append (before ++ seen) more s k)
+
 -- refusals
 
 stays_broken : (f : H2Fault) (before seen more : List ℕ) → AreBytes more → StandsBroken f before seen → StandsBroken f before (seen ++ more)
 stays_broken f before seen more k s =
-    let all : AreBytes (seen ++ more) = AreBytes-append seen more s.bytes k in
-    record { frames = s.frames; broken = broken_grows (cut before).context seen more f.code all s.broken; place = s.place; bytes = all }
+    let parts = AreBytes_parts before seen s.bytes in
+    let all : AreBytes (seen ++ more) = AreBytes-append seen more parts.1 k in
+    record {
+      frames = s.frames;
+      broken = broken_grows (cut before).context seen more f.code all s.broken;
+      place = s.place;
+      bytes = more_bytes before seen more s.bytes k;
+    }
 
 rejoined : (seen bytes : List ℕ) (n : ℕ) → (seen ++ take n bytes) ++ drop n bytes ≡ seen ++ bytes
 rejoined seen bytes n = append_assoc seen (take n bytes) (drop n bytes) ∙ ap (λ xs. seen ++ xs) (take-append-drop n bytes)
@@ -57,7 +69,7 @@ stuck_gives old f p bytes k e s =
     refused_gives f p bytes old k e (stays_broken f p.before p.seen (take (taken_of p.seen bytes) bytes) (AreBytes-take (taken_of p.seen bytes) bytes k) b)
 
 breaks : (old : Kept) (f : H2Fault) (before seen more : List ℕ) → AreBytes more → StandsAt old before seen → judge old.context (judged (seen ++ more)) ≡ Fault f.code → f.place ≡ old.place → StandsBroken f before (seen ++ more)
-breaks old f before seen more k s h q = record { frames = s.frames; broken = subst (λ at. front at (seen ++ more) ≡ Broken f.code) (sym s.context) (broken_front old.context (seen ++ more) f.code h); place = q ∙ s.place; bytes = AreBytes-append seen more s.bytes k }
+breaks old f before seen more k s h q = record { frames = s.frames; broken = subst (λ at. front at (seen ++ more) ≡ Broken f.code) (sym s.context) (broken_front old.context (seen ++ more) f.code h); place = q ∙ s.place; bytes = more_bytes before seen more s.bytes k }
 
 -- parts
 
@@ -120,7 +132,7 @@ head_part old new p bytes n None k e l s h =
     let sum : length p.seen + length bytes < 9 = omega (arith, length-append p.seen (take n bytes), ap length t) in
     let taken : n ≡ taken_of p.seen bytes = omega (arith, taken_few p.seen bytes few, h.0) in
     let now : Kept = record old { head = head_with old bytes } in
-    let at : StandsAt now p.before (p.seen ++ take n bytes) = record { frames = s.frames; context = s.context; place = s.place; head = nx ∙ sym (take_all 10 (p.seen ++ take n bytes) ten); left = λ q. absurd (omega arith); fine = h.4; bytes = AreBytes-append p.seen (take n bytes) s.bytes (AreBytes-take n bytes k) } in
+    let at : StandsAt now p.before (p.seen ++ take n bytes) = record { frames = s.frames; context = s.context; place = s.place; head = nx ∙ sym (take_all 10 (p.seen ++ take n bytes) ten); left = λ q. absurd (omega arith); fine = h.4; bytes = more_bytes p.before p.seen (take n bytes) s.bytes (AreBytes-take n bytes k) } in
     subst (Gives p bytes (Ok (record { taken = n; part = None }))) (sym h.3) (moves p bytes (record { taken = n; part = None }) now e at refl taken (sym (part_none p.seen bytes few sum)))
 head_part old new p bytes n (Some (Begin size kind flags stream)) k e l s h =
     let few : length p.seen < 9 = few_seen old p.before p.seen s l in
@@ -135,7 +147,7 @@ head_part old new p bytes n (Some (Begin size kind flags stream)) k e l s h =
     let sz : size ≡ length_with 0 (p.seen ++ take n bytes) = h.4 ∙ ap (length_with 0) nx in
     let now : Kept = record old { head = head_with old bytes; left = size } in
     let lf : size + length (p.seen ++ take n bytes) ≡ frame_size (p.seen ++ take n bytes) = omega arith in
-    let at : StandsAt now p.before (p.seen ++ take n bytes) = record { frames = s.frames; context = s.context; place = s.place; head = nx ∙ sym (take_all 10 (p.seen ++ take n bytes) ten); left = λ q. lf; fine = h.3; bytes = AreBytes-append p.seen (take n bytes) s.bytes (AreBytes-take n bytes k) } in
+    let at : StandsAt now p.before (p.seen ++ take n bytes) = record { frames = s.frames; context = s.context; place = s.place; head = nx ∙ sym (take_all 10 (p.seen ++ take n bytes) ten); left = λ q. lf; fine = h.3; bytes = more_bytes p.before p.seen (take n bytes) s.bytes (AreBytes-take n bytes k) } in
     let made : Begin size kind flags stream ≡ begin_of (head_with old bytes) = begin_same size kind flags stream (head_with old bytes) h.4 h.5 h.6 h.7 in
     let part : Some (Begin size kind flags stream) ≡ part_of p.seen bytes = ap Some (made ∙ ap begin_of (nx ∙ ap (λ j. p.seen ++ take j bytes) m)) ∙ sym (part_begin p.seen bytes few sum) in
     subst (Gives p bytes (Ok (record { taken = n; part = Some (Begin size kind flags stream) }))) (sym h.2) (moves p bytes (record { taken = n; part = Some (Begin size kind flags stream) }) now e at refl taken part)
@@ -204,7 +216,7 @@ payload_gives old p bytes (Ok fed) new k e l q z s h =
     let fs = frame_size-append p.seen (take fed.taken bytes) nine in
     let nx : (old.left - fed.taken) + length (p.seen ++ take fed.taken bytes) ≡ frame_size (p.seen ++ take fed.taken bytes) = omega (arith, length-append p.seen (take fed.taken bytes), length-take fed.taken bytes, fs) in
     let now : Kept = record old { head = pad_with old bytes; left = old.left - fed.taken } in
-    let at : StandsAt now p.before (p.seen ++ take fed.taken bytes) = record { frames = st.frames; context = st.context; place = st.place; head = pad_taken old p.before p.seen bytes fed.taken st l q h.2; left = λ _. nx; fine = pad_fine old p.before p.seen bytes st h.4; bytes = AreBytes-append p.seen (take fed.taken bytes) st.bytes (AreBytes-take fed.taken bytes k) } in
+    let at : StandsAt now p.before (p.seen ++ take fed.taken bytes) = record { frames = st.frames; context = st.context; place = st.place; head = pad_taken old p.before p.seen bytes fed.taken st l q h.2; left = λ _. nx; fine = pad_fine old p.before p.seen bytes st h.4; bytes = more_bytes p.before p.seen (take fed.taken bytes) st.bytes (AreBytes-take fed.taken bytes k) } in
     let part : fed.part ≡ part_of p.seen bytes = h.0 ∙ ap (λ j. Some (Piece j)) taken ∙ sym (part_piece p.seen bytes nine still z) in
     let moved : position_by fed.part p (take fed.taken bytes) ≡ record { before = p.before; seen = p.seen ++ take fed.taken bytes } = ap (λ o. position_by o p (take fed.taken bytes)) h.0 in
     subst (Gives p bytes (Ok fed)) (sym h.3) (moves p bytes fed now e at moved taken part)
@@ -238,7 +250,7 @@ last_gives old p bytes (Ok fed) new l z e s h =
     let size : frame_size old.head ≡ length p.seen = ap frame_size st.head ∙ ap (λ n. 9 + n) (size_take 0 10 p.seen (lit≤ tt)) ∙ sym whole in
     let place : saturated (old.place + frame_size old.head) ≡ saturated (length (p.before ++ p.seen)) = omega (arith, st.place, length-append p.before p.seen) in
     let now : Kept = record { context = after old.context old.head; place = saturated (old.place + frame_size old.head); head = []; left = 0; fault = None } in
-    let stands : StandsAt now (p.before ++ p.seen) [] = record { frames = frames_whole p.before p.seen st.frames w; context = ap (λ x. x.context) c ∙ at; place = place; head = refl; left = λ q. absurd (omega arith); fine = nothing_fine (after old.context old.head); bytes = AreBytes_none } in
+    let stands : StandsAt now (p.before ++ p.seen) [] = record { frames = frames_whole p.before p.seen st.frames w; context = ap (λ x. x.context) c ∙ at; place = place; head = refl; left = λ q. absurd (omega arith); fine = nothing_fine (after old.context old.head); bytes = subst AreBytes (sym (append-nil (p.before ++ p.seen))) st.bytes } in
     let none = nothing_taken p.seen bytes nine whole in
     let part : fed.part ≡ part_of p.seen bytes = h.0 ∙ sym (part_done p.seen bytes nine ends) in
     let moved : position_by fed.part p (take fed.taken bytes) ≡ record { before = p.before ++ p.seen; seen = [] } = ap (λ o. position_by o p (take fed.taken bytes)) h.0 in

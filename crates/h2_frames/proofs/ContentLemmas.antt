@@ -1,6 +1,6 @@
 -- Where the content of a frame lies.
-use Rattle.std.proofs.Common.{◌≡◌, ◌<◌, ◌≤◌, ◌+◌, ◌-◌, ◌++◌, ℕ, Bool, true, false, List, [], ◌∷◌, length, take, drop, cond, arith, refl, sym, ap, ap₂, ◌∙◌, get_or, length-append, length-take, length-drop, append-nil, append_assoc}
-use Rattle.std.proofs.lemmas.List.{take-append-drop, take_all, drop-drop, drop-append-le}
+use Rattle.std.proofs.Common.{◌≡◌, ◌<◌, ◌≤◌, ◌+◌, ◌-◌, ◌++◌, ℕ, Bool, true, false, List, [], ◌∷◌, length, take, drop, min, cond, arith, refl, sym, ap, ap₂, ◌∙◌, get_or, length-append, length-take, length-drop, append-nil, append_assoc}
+use Rattle.std.proofs.lemmas.List.{take-append-drop, take_all, take_min, drop-drop, drop-append-le}
 use Rattle.std.proofs.Math.ListN.{drop_of_length-le}
 use Rattle.h2_frames.specs.FrameHead.{Frame}
 use Rattle.h2_frames.specs.FrameContent.{is_padded, has_priority, bytes_before, padding_size, bytes_around, HasContent, content_size, content_of, content_among}
@@ -211,6 +211,24 @@ among before size xs ys =
     ≡ size - (length xs - before) = ap (λ k. size - k) (length-drop before xs) in
     ap (take size) (drop_append before xs ys) ∙ take_append size (drop before xs) (drop (before - length xs) ys)
     ∙ ap (λ k. take size (drop before xs) ++ take k (drop (before - length xs) ys)) n
+
+-- behind the last of so many bytes there are none
+dropped_same : (m n from : ℕ) (bytes : List ℕ) → length bytes ≡ n → from ≡ min m n → drop from bytes ≡ drop m bytes
+dropped_same m n from bytes l f = either m n
+    (λ less. let e : from ≡ m = omega arith in ap (λ j. drop j bytes) e)
+    (λ all.
+    let p : length bytes ≤ from = omega arith in
+    let q : length bytes ≤ m = omega arith in
+    drop_of_length-le bytes {i = from} p ∙ sym (drop_of_length-le bytes {i = m} q))
+
+-- a range of so many bytes: at most so many of them, behind so many
+pub range_is : (m k n from to : ℕ) (bytes : List ℕ) → length bytes ≡ n → from ≡ min m n
+    → to ≡ from + min k (n - from) → take (to - from) (drop from bytes) ≡ take k (drop m bytes)
+range_is m k n from to bytes l f t =
+    let len : length (drop from bytes) ≡ n - from = omega (arith, length-drop from bytes) in
+    let count : to - from ≡ min k (length (drop from bytes)) = omega (arith, len) in
+    ap (λ j. take j (drop from bytes)) count ∙ take_min k (drop from bytes)
+    ∙ ap (take k) (dropped_same m n from bytes l f)
 
 -- each piece of a payload adds its content
 pub content_grows : (f : Frame) (bytes : List ℕ) → content_of (with_more bytes f)

@@ -113,4 +113,5 @@ lists_are_cut = record {
   frames = refl;
   fine = refl;
   fault = refl;
+  ended_block = refl;
 }

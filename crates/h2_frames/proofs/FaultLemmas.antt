@@ -53,6 +53,28 @@ fine_fault before seen b fine most = either (length seen) 9
     (λ all. let le : length seen ≤ frame_size seen = most nine in let whole : length seen ≡ frame_size seen = omega arith in
     fault_of_cut (before ++ seen) _ (cut_whole before seen b (whole_frame (cut before).context seen nine whole fine))))
 
+-- up to a fault in a part of a frame, or all of it, behind whole frames there are no others
+frames_by : (before seen : List ℕ) (j : Judgement) (f : H2Fault) → judge (cut before).context (judged seen) ≡ j
+    → AreFrames before → (9 ≤ length seen → length seen ≤ frame_size seen) → first_fault (before ++ seen) ≡ Some f
+    → frames_of (before ++ seen) ≡ frames_of before
+frames_by before seen (Fault code) f e b most h =
+    ap (λ c. map frame_of c.frames)
+    (cut_next before seen (Broken code) b (broken_front (cut before).context seen code e))
+    ∙ ap (map frame_of) (append-nil (cut before).frames)
+frames_by before seen Open f e b most h =
+    let none : first_fault (before ++ seen) ≡ None = fine_fault before seen b (subst IsNoFault (sym e) tt) most in
+    absurd (cc)
+frames_by before seen Fine f e b most h =
+    let none : first_fault (before ++ seen) ≡ None = fine_fault before seen b (subst IsNoFault (sym e) tt) most in
+    absurd (cc)
+
+-- the frames before a fault in the frame behind them
+pub frames_before : (before seen : List ℕ) (f : H2Fault) → AreFrames before
+    → (9 ≤ length seen → length seen ≤ frame_size seen) → first_fault (before ++ seen) ≡ Some f
+    → frames_of (before ++ seen) ≡ frames_of before
+frames_before before seen f b most h =
+    frames_by before seen (judge (cut before).context (judged seen)) f refl b most h
+
 -- what a cut leaves begins with the fault that it found
 abbrev Ends : Cut → Type 0
 Ends c = (code : ℕ) → c.fault ≡ Some code → front c.context c.rest ≡ Broken code

@@ -31,6 +31,7 @@ stands_within kept p s e =
     let part = λ (h : part_of p.seen [] ≢ Some Done). cut_part p.before p.seen at.frames
     (fine_judged p.before p.seen at.frames fine) (not_due p.seen h) in
     record {
+      bytes = at.bytes;
       frames = at.frames;
       fine = fine;
       offset = at.place;

@@ -1,5 +1,5 @@
 -- What an answer says to a caller that keeps no bytes.
-use Rattle.std.proofs.Common.{◌≡◌, ◌<◌, ◌≤◌, ◌+◌, ◌-◌, ◌++◌, ◌==◌, ℕ, Bool, true, false, List, [], ◌∷◌, length, take, min, cond, nat_lt, arith, refl, sym, ap, ap₂, subst, ◌∙◌, get_or, length-append, length-take, append-nil, Option, Some, None, Result, Ok, Err, IfOk, IfErr}
+use Rattle.std.proofs.Common.{◌≡◌, ◌<◌, ◌≤◌, ◌+◌, ◌-◌, ◌++◌, ◌==◌, ℕ, Bool, true, false, List, [], ◌∷◌, length, take, min, cond, nat_lt, arith, refl, sym, ap, ap₂, subst, ◌∙◌, get_or, length-append, length-take, append-nil, Option, Some, None, OnErr, Result, Ok, Err, IfOk, IfErr}
 use Rattle.std.proofs.lemmas.Bool.{le-leb, lt-leb, lt-ltb, le-ltb, eq-eqb}
 use Rattle.std.proofs.lemmas.List.{take_all, get_or_append_left, get_or-append-add, get_or-take}
 use Rattle.base.specs.Bytes.{AreBytes}
@@ -288,3 +288,23 @@ last_refuses old bytes (Err f) new h = absurd h
 pub stuck_refuses : (old : Kept) (bytes : List ℕ) (f g : H2Fault) → old.fault ≡ Some g → old.fault ≡ None
     → IsRefused old bytes f
 stuck_refuses old bytes f g some none = let same : Some g ≡ None = sym some ∙ none in absurd (cc)
+
+-- a refusal leaves the offset of the frame, within a head
+pub head_stays : (old : Kept) (bytes : List ℕ) (result : Result FrameFed H2Fault) (new : Kept)
+    → IsHeadStep old bytes result new → OnErr result (new.place ≡ old.place)
+head_stays old bytes (Ok fed) new h = tt
+head_stays old bytes (Err f) new h = ap (λ (k : Kept). k.place) h.0
+
+-- and within a payload
+pub more_stays : (old : Kept) (bytes : List ℕ) (result : Result FrameFed H2Fault) (new : Kept)
+    → IsMoreStep old bytes result new → OnErr result (new.place ≡ old.place)
+more_stays old bytes (Ok fed) new h = tt
+more_stays old bytes (Err f) new h = either 0 (length bytes)
+    (λ some. let s = h.1 some in ap (λ (k : Kept). k.place) s.0)
+    (λ none. let z : length bytes ≡ 0 = omega arith in let same = (h.0 z).0 in absurd (cc))
+
+-- at the end of a frame nothing is refused
+pub last_stays : (old : Kept) (result : Result FrameFed H2Fault) (new : Kept) → IsLastStep old result new
+    → OnErr result (new.place ≡ old.place)
+last_stays old (Ok fed) new h = tt
+last_stays old (Err f) new h = absurd h

@@ -20,7 +20,7 @@ use Rattle.h2_frames.specs.FrameReader.{Position, no_bytes, bytes_read, taken_of
 use Rattle.h2_frames.specs.FrameRuns.{Told, nothing_told, told_by, told_of, current_of, taken_by, frame_reading, TellsFrames}
 use Rattle.h2_frames.proofs.FrontLemmas.{size_append, frame_size-append}
 use Rattle.h2_frames.proofs.GrowthLemmas.{either}
-use Rattle.h2_frames.proofs.FaultLemmas.{fine_judged, whole_frame, frames_of_whole, frames_whole, cut_part, first_fault-append}
+use Rattle.h2_frames.proofs.FaultLemmas.{fine_judged, whole_frame, frames_of_whole, frames_whole, cut_part, frames_before, first_fault-append, fault_frames}
 use Rattle.h2_frames.proofs.FedLemmas.{taken_few, taken_many, part_none, part_begin, part_done, part_idle, part_piece}
 use Rattle.h2_frames.proofs.FreshLemmas.{no_frames, no_frames_told, nothing_is_fine}
 
@@ -225,11 +225,27 @@ run_tells calls last run =
       all_current = λ h. a.current ∙ ap current_of (sym (ap (λ c. c.rest) (rest h))) ∙ ap (λ xs. current_of (rest_of xs)) read;
     }
 
+-- all bytes by the end of a call that takes so many
+by_then : (p : Position) (taken bytes : List ℕ) (n : ℕ) → bytes_read p ≡ taken
+    → p.before ++ (p.seen ++ take n bytes) ≡ taken ++ take n bytes
+by_then p taken bytes n read =
+    sym (append_assoc p.before p.seen (take n bytes)) ∙ ap (λ xs. xs ++ take n bytes) read
+
+-- and those behind it
+rejoined : (taken bytes more : List ℕ) (n : ℕ)
+    → (taken ++ take n bytes) ++ (drop n bytes ++ more) ≡ taken ++ (bytes ++ more)
+rejoined taken bytes more n =
+    append_assoc taken (take n bytes) (drop n bytes ++ more)
+    ∙ ap (λ xs. taken ++ xs) (sym (append_assoc (take n bytes) (drop n bytes) more))
+    ∙ ap (λ xs. taken ++ (xs ++ more)) (take-append-drop n bytes)
+
 refused_at : (p : Position) (taken bytes more : List ℕ) (f : H2Fault) (n : ℕ) → bytes_read p ≡ taken → first_fault (p.before ++ (p.seen ++ take n bytes)) ≡ Some f → AreBytes taken → AreBytes bytes → AreBytes more → first_fault (taken ++ (bytes ++ more)) ≡ Some f
 refused_at p taken bytes more f n read h k b m =
-    let so_far : p.before ++ (p.seen ++ take n bytes) ≡ taken ++ take n bytes = sym (append_assoc p.before p.seen (take n bytes)) ∙ ap (λ xs. xs ++ take n bytes) read in
-    let whole : (taken ++ take n bytes) ++ (drop n bytes ++ more) ≡ taken ++ (bytes ++ more) = append_assoc taken (take n bytes) (drop n bytes ++ more) ∙ ap (λ xs. taken ++ xs) (sym (append_assoc (take n bytes) (drop n bytes) more)) ∙ ap (λ xs. taken ++ (xs ++ more)) (take-append-drop n bytes) in
-    ap first_fault (sym whole) ∙ first_fault-append (taken ++ take n bytes) (drop n bytes ++ more) f (AreBytes-append taken (take n bytes) k (AreBytes-take n bytes b)) (AreBytes-append (drop n bytes) more (AreBytes-drop n bytes b) m) (ap first_fault (sym so_far) ∙ h)
+    ap first_fault (sym (rejoined taken bytes more n))
+    ∙ first_fault-append (taken ++ take n bytes) (drop n bytes ++ more) f
+    (AreBytes-append taken (take n bytes) k (AreBytes-take n bytes b))
+    (AreBytes-append (drop n bytes) more (AreBytes-drop n bytes b) m)
+    (ap first_fault (sym (by_then p taken bytes n read)) ∙ h)
 
 -- a refusal behind a run is the first fault of the whole list
 pub run_refused : (calls : List (FeedCall FrameFed)) (last : Position) (bytes more : List ℕ) (f : H2Fault) → IsRun frame_reading no_bytes calls last → answer_of last bytes ≡ Err f
@@ -238,6 +254,47 @@ run_refused calls last bytes more f run e k b m =
     let h : first_fault (bytes_after last bytes) ≡ Some f = err_by (first_fault (bytes_after last bytes)) (fed_of last.seen bytes) f e in
     let reads = run_reads calls last run in
     refused_at last (taken_in_all taken_by calls) bytes more f (taken_of last.seen bytes) reads.read h k b m
+
+-- what was seen of a frame, with what a call takes, is no more than a frame
+seen_most : (seen bytes : List ℕ) (n : ℕ) → n ≡ taken_of seen bytes → (9 ≤ length seen → length seen ≤ frame_size seen)
+    → length (seen ++ take n bytes) ≤ frame_size (seen ++ take n bytes)
+seen_most seen bytes n z most = either (length seen) 9
+    (λ few.
+    let t : n ≡ min (9 - length seen) (length bytes) = z ∙ taken_few seen bytes few in
+    let l : length (seen ++ take n bytes) ≤ 9 = omega (arith, length-append seen (take n bytes), length-take n bytes) in
+    omega arith)
+    (λ nine.
+    let t : n ≡ min (frame_size seen - length seen) (length bytes) = z ∙ taken_many seen bytes nine in
+    let most_now : length seen ≤ frame_size seen = most nine in
+    let l : length (seen ++ take n bytes) ≤ frame_size seen =
+    omega (arith, length-append seen (take n bytes), length-take n bytes) in
+    omega (arith, frame_size-append seen (take n bytes) nine))
+
+told_at : (p : Position) (taken bytes more : List ℕ) (f : H2Fault) (n : ℕ) → bytes_read p ≡ taken
+    → n ≡ taken_of p.seen bytes → AreFrames p.before → (9 ≤ length p.seen → length p.seen ≤ frame_size p.seen)
+    → first_fault (p.before ++ (p.seen ++ take n bytes)) ≡ Some f → AreBytes taken → AreBytes bytes → AreBytes more
+    → frames_of p.before ≡ frames_of (taken ++ (bytes ++ more))
+told_at p taken bytes more f n read z w most h k b m =
+    let now : first_fault (taken ++ take n bytes) ≡ Some f = ap first_fault (sym (by_then p taken bytes n read)) ∙ h in
+    let longer : frames_of ((taken ++ take n bytes) ++ (drop n bytes ++ more)) ≡ frames_of (taken ++ take n bytes) =
+    fault_frames (taken ++ take n bytes) (drop n bytes ++ more) f
+    (AreBytes-append taken (take n bytes) k (AreBytes-take n bytes b))
+    (AreBytes-append (drop n bytes) more (AreBytes-drop n bytes b) m) now in
+    sym (frames_before p.before (p.seen ++ take n bytes) f w (λ _. seen_most p.seen bytes n z most) h)
+    ∙ ap frames_of (by_then p taken bytes n read) ∙ sym longer ∙ ap frames_of (rejoined taken bytes more n)
+
+-- what was told before a refusal behind a run are all frames of the whole list
+pub run_told : (calls : List (FeedCall FrameFed)) (last : Position) (bytes more : List ℕ) (f : H2Fault)
+    → IsRun frame_reading no_bytes calls last → answer_of last bytes ≡ Err f → AreBytes (taken_in_all taken_by calls)
+    → AreBytes bytes → AreBytes more
+    → (told_of calls).frames ≡ frames_of (taken_in_all taken_by calls ++ (bytes ++ more))
+run_told calls last bytes more f run e k b m =
+    let h : first_fault (bytes_after last bytes) ≡ Some f =
+    err_by (first_fault (bytes_after last bytes)) (fed_of last.seen bytes) f e in
+    let reads = run_reads calls last run in
+    let a : Agrees last (told_of calls) = reads.agrees in
+    a.frames ∙ told_at last (taken_in_all taken_by calls) bytes more f (taken_of last.seen bytes) reads.read refl
+    a.whole a.most h k b m
 
 -- a call takes at most what it is given
 taken_most : (p : Position) (bytes : List ℕ) → taken_of p.seen bytes ≤ length bytes

@@ -139,3 +139,6 @@ pub record ListsAreCut : Type 0 where
       ∷ []
   pub fine : first_fault opening ≡ None
   pub fault : first_fault (opening ++ 0 ∷ 0 ∷ 0 ∷ 9 ∷ []) ≡ Some (record { place = 39; code = 1 })
+  -- HEADERS with END_HEADERS leave no field block that CONTINUATION could go on with
+  pub ended_block : first_fault (0 ∷ 0 ∷ 0 ∷ 4 ∷ 0 ∷ 0 ∷ 0 ∷ 0 ∷ 0 ∷ 0 ∷ 0 ∷ 0 ∷ 1 ∷ 4 ∷ 0 ∷ 0 ∷ 0 ∷ 1 ∷ 0 ∷ 0 ∷ 0
+      ∷ 9 ∷ []) ≡ Some (record { place = 18; code = 1 })

@@ -1,5 +1,6 @@
 -- Where a reader stands in the bytes for which it stands, and which of them a part tells.
 use Rattle.std.specs.Prelude.{◌≡◌, ◌≢◌, ◌≤◌, ◌<◌, ◌+◌, ◌++◌, ℕ, List, [], length, nat_le, Option, Some, None}
+use Rattle.base.specs.Bytes.{AreBytes}
 use Rattle.base.specs.Saturated.{saturated}
 use Rattle.h2_frames.specs.declared.parts.Part.{Part}
 use Rattle.h2_frames.specs.declared.parts.Part.TheVariants.{Begin, Piece, Done}
@@ -20,6 +21,7 @@ IsOfPart (Some Done) seen piece = (9 ≤ length seen) × (length seen ≡ frame_
 
 -- a reader that refused nothing, and the bytes for which it stands
 pub record StandsWithin (kept : Kept) (p : Position) : Type 0 where
+  pub bytes : AreBytes (bytes_read p)
   pub frames : AreFrames p.before
   pub fine : first_fault (bytes_read p) ≡ None
   -- the offset of the first byte of the frame that is read

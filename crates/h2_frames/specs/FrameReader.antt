@@ -90,14 +90,14 @@ pub record StandsAt (kept : Kept) (before seen : List ℕ) : Type 0 where
   pub head : kept.head ≡ take 10 seen
   pub left : 9 ≤ length seen → kept.left + length seen ≡ frame_size seen
   pub fine : IsNoFault (judge kept.context kept.head)
-  pub bytes : AreBytes seen
+  pub bytes : AreBytes (before ++ seen)
 
 -- whole frames were told, and the others break a rule
 pub record StandsBroken (f : H2Fault) (before seen : List ℕ) : Type 0 where
   pub frames : AreFrames before
   pub broken : front (cut before).context seen ≡ Broken f.code
   pub place : f.place ≡ saturated (length before)
-  pub bytes : AreBytes seen
+  pub bytes : AreBytes (before ++ seen)
 
 -- the one or the other
 abbrev pub StandsBy : Option H2Fault → Kept → Position → Type 0

@@ -1,9 +1,9 @@
 -- The rules that a frame keeps by itself and by the frames before it, each as the standard says it (RFC 9113,
 -- sections 3.4, 4.2, 4.3, 6 and 8.4).
 use Rattle.std.specs.Prelude.{◌≡◌, ◌≢◌, ◌≤◌, ◌==◌, ◌||◌, ◌%◌, ℕ, true, false, List, [], ◌∷◌, if◌then◌else◌, Some, None}
-use Rattle.h2_frames.specs.Http2Codes.{HEADERS, PRIORITY, RST_STREAM, SETTINGS, PUSH_PROMISE, PING, GOAWAY, WINDOW_UPDATE, CONTINUATION, ACK, END_HEADERS}
+use Rattle.h2_frames.specs.Http2Codes.{DATA, HEADERS, PRIORITY, RST_STREAM, SETTINGS, PUSH_PROMISE, PING, GOAWAY, WINDOW_UPDATE, CONTINUATION, ACK, END_HEADERS}
 use Rattle.h2_frames.specs.FrameHead.{Frame, has_flag}
-use Rattle.h2_frames.specs.FrameErrors.{Context, is_of_stream, is_of_connection}
+use Rattle.h2_frames.specs.FrameErrors.{Context}
 use Rattle.h2_frames.specs.FrameContent.{bytes_before, bytes_around}
 
 -- a payload has a size of its type
@@ -21,6 +21,20 @@ pub record HasSizeOfKind (size kind flags : ℕ) : Type 0 where
   pub goaway : kind ≡ GOAWAY → 8 ≤ size
   pub window_update : kind ≡ WINDOW_UPDATE → size ≡ 4
 
+-- a frame of a stream is not on stream 0, and one of the connection is
+pub record HasStreamOfKind (stream kind : ℕ) : Type 0 where
+  -- sections 6.1 to 6.4
+  pub data_frame : kind ≡ DATA → stream ≢ 0
+  pub headers : kind ≡ HEADERS → stream ≢ 0
+  pub priority : kind ≡ PRIORITY → stream ≢ 0
+  pub rst_stream : kind ≡ RST_STREAM → stream ≢ 0
+  -- section 6.6
+  pub push_promise : kind ≡ PUSH_PROMISE → stream ≢ 0
+  -- sections 6.5, 6.7 and 6.8
+  pub settings : kind ≡ SETTINGS → stream ≡ 0
+  pub ping : kind ≡ PING → stream ≡ 0
+  pub goaway : kind ≡ GOAWAY → stream ≡ 0
+
 -- the rules of which a head shows all
 pub record KeepsHeadRules (at : Context) (size kind flags stream : ℕ) : Type 0 where
   -- the first frame is SETTINGS without ACK (section 3.4)
@@ -31,8 +45,7 @@ pub record KeepsHeadRules (at : Context) (size kind flags stream : ℕ) : Type 0
   pub block : (number : ℕ) → at.block ≡ Some number → (kind ≡ CONTINUATION) × (stream ≡ number)
   pub no_block : at.block ≡ None → kind ≢ CONTINUATION
   -- frames of a stream are not on stream 0, and those of the connection are (sections 6.1 to 6.8)
-  pub of_stream : is_of_stream kind ≡ true → stream ≢ 0
-  pub of_connection : is_of_connection kind ≡ true → stream ≡ 0
+  pub of_kind : HasStreamOfKind stream kind
   -- server push does not come (section 8.4)
   pub no_push : kind ≢ PUSH_PROMISE
   pub payload : HasSizeOfKind size kind flags

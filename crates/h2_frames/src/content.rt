@@ -1,8 +1,8 @@
 //! Where the content of a frame lies in its payload (RFC 9113, sections 6.1 and 6.2), by numbers of
 //! its head and the first byte of its payload.
 
-ghost use Rattle.std.specs.Prelude.{◌≡◌, ◌≤◌};
-ghost use Rattle.h2_frames.specs.FrameContent.{is_padded as padded, has_priority as prioritized, bytes_before as before, padding_size as padding, waits_for_padding as waits};
+ghost use Rattle.std.specs.Prelude.{◌≡◌, ◌≤◌, ◌-◌, ℕ, List, length, take, drop};
+ghost use Rattle.h2_frames.specs.FrameContent.{is_padded as padded, has_priority as prioritized, bytes_before as before, padding_size as padding, waits_for_padding as waits, content_among};
 
 use crate::codes::{DATA, HEADERS, PADDED, PRIORITY_FLAG};
 use crate::frame_head::has_flag;
@@ -52,4 +52,21 @@ pub fn waits_for_padding(kind: u8, flags: u8, length: u32) -> bool
     ensures { result ≡ waits kind flags length }
 {
     is_padded(kind, flags) && length < bytes_before(kind, flags) + 255
+}
+
+/// Where the content lies among `n` bytes of a payload, the first of which has this offset in it:
+/// the index of its first byte and the one behind its last, which are the same where it has none
+/// there. The payload has `before` bytes before its content, and the whole content has `size`.
+pub fn content_range(before: u32, size: u32, offset: usize, n: usize) -> (usize, usize)
+    ensures within { (result.0 ≤ result.1) × (result.1 ≤ n) }
+    ensures content { (bytes : List ℕ) → length bytes ≡ n
+        → take (result.1 - result.0) (drop result.0 bytes)
+        ≡ content_among before size offset bytes }
+{
+    let skipped = (before as usize).saturating_sub(offset);
+    let past = offset.saturating_sub(before as usize);
+    let left = (size as usize).saturating_sub(past);
+    let from = skipped.min(n);
+    let most = left.min(n - from);
+    (from, from + most)
 }

@@ -16,7 +16,7 @@ ghost use Rattle.h2_frames.specs.FrameVerdicts.{IsDecidedAtOnce};
 ghost use Rattle.h2_frames.specs.Http2Frame.{AreFrames, start, cut, judged, frames_of, rest_of, first_fault};
 ghost use Rattle.h2_frames.specs.FrameReader.{IsNoFault, Kept, Stands, Position, no_bytes, bytes_read, position_after, answer_of, IsPart};
 ghost use Rattle.h2_frames.specs.declared.parts.FrameFed.{FrameFed};
-ghost use Rattle.h2_frames.specs.FrameRuns.{frame_reading, taken_by, with_more, TellsFrames};
+ghost use Rattle.h2_frames.specs.FrameRuns.{frame_reading, taken_by, told_of, with_more, TellsFrames};
 
 use crate::codes::{
     ACK, CANCEL, COMPRESSION_ERROR, CONNECT_ERROR, CONNECTION_STREAM, CONTINUATION, DATA,
@@ -132,7 +132,8 @@ pub fn frames_are_read_back()
 {}
 
 /// However a list of bytes is given to a reader, the parts of its answers are the frames of the
-/// whole list, up to the first fault of that list. Each call adds the bytes that it takes.
+/// whole list, up to the first fault of that list. Each call adds the bytes that it takes. A refusal
+/// is that fault, whatever bytes follow, and no frame of the longer list is left untold.
 pub fn parts_are_frames()
     ensures parts { (calls : List (FeedCall FrameFed)) (last : Position)
         → IsRun frame_reading no_bytes calls last → TellsFrames calls last }
@@ -145,6 +146,10 @@ pub fn parts_are_frames()
         (f : H2Fault) → IsRun frame_reading no_bytes calls last → answer_of last bytes ≡ Err f
         → AreBytes (taken_in_all taken_by calls) → AreBytes bytes → AreBytes more
         → first_fault (taken_in_all taken_by calls ++ (bytes ++ more)) ≡ Some f }
+    ensures told { (calls : List (FeedCall FrameFed)) (last : Position) (bytes more : List ℕ)
+        (f : H2Fault) → IsRun frame_reading no_bytes calls last → answer_of last bytes ≡ Err f
+        → AreBytes (taken_in_all taken_by calls) → AreBytes bytes → AreBytes more
+        → (told_of calls).frames ≡ frames_of (taken_in_all taken_by calls ++ (bytes ++ more)) }
 {}
 
 /// The content of a frame lies in its payload where the standard says, and a payload has one

@@ -26,7 +26,7 @@ mod stream_rules;
 mod verdict;
 mod writer;
 
-pub use content::{bytes_before, is_padded, padding_size, waits_for_padding};
+pub use content::{bytes_before, content_range, is_padded, padding_size, waits_for_padding};
 pub use fault::H2Fault;
 pub use parts::{FrameFed, Part};
 pub use reader::FrameReader;

@@ -116,6 +116,14 @@ impl FrameReader {
         })
     }
 
+    /// The offset of the first byte of the frame that is read or was refused, and between frames of
+    /// the next one, in all bytes that were read. It stands still at the last value of `u64`.
+    pub fn place(&self) -> u64
+        ensures { result ≡ self.now.place }
+    {
+        self.place
+    }
+
     /// Takes bytes of a head, which has less than nine.
     fn take_head(&mut self, bytes: &[u8]) -> Result<FrameFed, H2Fault>
         requires fault { self.old.fault ≡ None }
@@ -246,6 +254,7 @@ impl FrameReader {
         // The same fault ever after.
         ensures sticky { IfSome self.old.fault (λ f. (result ≡ Err f) × (self.new ≡ self.old)) }
         ensures refused { IfErr result (λ f. self.new.fault ≡ Some f) }
+        ensures offset { OnErr result (self.new.place ≡ self.old.place) }
         ensures accepted { OnOk result (self.new.fault ≡ None) }
     {
         match self.stage {

@@ -1,6 +1,6 @@
 -- Calls of a decoder one after another answer what the blocks of a connection spell.
 use Rattle.std.proofs.Common.{◌≡◌, ◌++◌, ℕ, List, [], ◌∷◌, Option, Some, None, Result, Ok, Err, refl, ap, sym, ◌∙◌}
-use Rattle.std.proofs.Common.{◌↔◌, subst, append-nil}
+use Rattle.std.proofs.Common.{◌↔◌, ◌<◌, suc, length, subst, append-nil, arith}
 use Rattle.hpack_codec.specs.StaticTable.{HeaderField}
 use Rattle.hpack_codec.specs.DynamicTable.{HeaderTable}
 use Rattle.hpack_codec.specs.HeaderBlock.{HeaderBlock, header_block}
@@ -89,6 +89,42 @@ pub blocks_go_on : (t : HeaderTable) (front more : List (List ℕ))
 blocks_go_on t [] more = refl
 blocks_go_on t (block ∷ blocks) more =
     go_on_by t blocks more (header_block t block) (λ after. blocks_go_on after blocks more)
+
+-- as many lists as blocks where none was refused, and fewer where one was
+abbrev AreCounted : Option BlockFault → ℕ → ℕ → Type 0
+AreCounted None lists blocks = lists ≡ blocks
+AreCounted (Some fault) lists blocks = lists < blocks
+
+one_counted : (fault : Option BlockFault) (m n : ℕ) → AreCounted fault m n → AreCounted fault (suc m) (suc n)
+one_counted None m n h = omega (arith, h)
+one_counted (Some f) m n h = omega (arith, h)
+
+counted_by : (t : HeaderTable) (block : List ℕ) (blocks : List (List ℕ)) (x : BlockResult)
+    → ((after : HeaderTable)
+    → AreCounted (header_blocks after blocks).fault (length (header_blocks after blocks).lists) (length blocks))
+    → AreCounted (blocks_step t x (λ after. header_blocks after blocks)).fault
+    (length (blocks_step t x (λ after. header_blocks after blocks)).lists) (length (block ∷ blocks))
+counted_by t block blocks (Ok r) ih =
+    one_counted (header_blocks r.table blocks).fault (length (header_blocks r.table blocks).lists) (length blocks)
+    (ih r.table)
+counted_by t block blocks (Err f) ih = omega arith
+
+counted : (t : HeaderTable) (blocks : List (List ℕ))
+    → AreCounted (header_blocks t blocks).fault (length (header_blocks t blocks).lists) (length blocks)
+counted t [] = refl
+counted t (block ∷ blocks) =
+    counted_by t block blocks (header_block t block) (λ after. counted after blocks)
+
+count_tells : (fault : Option BlockFault) (m n : ℕ) → AreCounted fault m n → (fault ≡ None) ↔ (m ≡ n)
+count_tells None m n h = (λ _. h, λ _. refl)
+count_tells (Some f) m n h = (λ e. absurd (cc), λ e. absurd (omega (arith, h, e)))
+
+-- each block has its list exactly where none was refused
+pub all_listed : (t : HeaderTable) (blocks : List (List ℕ))
+    → ((header_blocks t blocks).fault ≡ None) ↔ (length (header_blocks t blocks).lists ≡ length blocks)
+all_listed t blocks =
+    count_tells (header_blocks t blocks).fault (length (header_blocks t blocks).lists) (length blocks)
+    (counted t blocks)
 
 -- a decoder that was given nothing
 pub none_given : (t : HeaderTable) (d : DecoderState) → d.table ≡ t → d.refused ≡ None → StandsForBlocks t d []

@@ -32,5 +32,6 @@ pub mod HuffmanCodeLemmas
 -- How the table changes (`tables_evict_from_the_end`, `first_bytes_tell_what_becomes_of_the_table`).
 pub mod EvictionLemmas
 pub mod TableChanges
--- The blocks of a connection (`blocks_go_through_one_table`, `connections_go_on`).
+-- The blocks of a connection (`blocks_go_through_one_table`, `connections_go_on`, `tables_stay_within_their_size`).
 pub mod ConnectionLemmas
+pub mod TableBounds

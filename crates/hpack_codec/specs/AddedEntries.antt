@@ -1,4 +1,4 @@
--- How the dynamic table changes, in the words of RFC 7541, sections 4.3 and 4.4.
+-- How the dynamic table changes, and what stays so, in the words of RFC 7541, sections 4.2 to 4.4.
 use Rattle.std.specs.Prelude.{◌≡◌, ◌-◌, ◌<◌, ◌≤◌, ◌++◌, ℕ, List, [], ◌∷◌}
 use Rattle.hpack_codec.specs.StaticTable.{HeaderField}
 use Rattle.hpack_codec.specs.DynamicTable.{HeaderTable, field_size, fields_size}
@@ -29,3 +29,8 @@ pub record IsAdded (old : HeaderTable) (f : HeaderField) (new : HeaderTable) : T
 pub record IsResized (old : HeaderTable) (size : ℕ) (new : HeaderTable) : Type 0 where
   pub max_size : new.max_size ≡ size
   pub evicts : IsEvictedTo size old.fields new.fields
+
+-- the fields of a table have the size that is set at most, and that is 4,096, with which a connection begins, at most
+pub record IsWithinSize (t : HeaderTable) : Type 0 where
+  pub within : fields_size t.fields ≤ t.max_size
+  pub largest : t.max_size ≤ 4096

@@ -20,3 +20,4 @@ pub mod DecoderState
 pub mod ConnectionBlocks
 pub mod EncodedBlock
 pub mod HpackExamples
+pub mod BlockFaultTexts

@@ -24,7 +24,8 @@ use std::marker::Model;
 const SCRATCH_BYTES: usize = MAX_LIST_SIZE + 2;
 
 /// Decodes the header blocks of one direction of a connection, in their order, over one dynamic
-/// table. After a refusal the table is lost, and it answers the same to every later block.
+/// table. After a refusal the table is lost, and it answers the same to every later block. Between
+/// blocks it keeps the fields of the table and nothing of the blocks.
 #[derive(Drop)]
 pub struct Decoder {
     table: DynamicTable,
@@ -33,14 +34,14 @@ pub struct Decoder {
 }
 
 impl Model for Decoder {
-    ghost use Rattle.std.specs.Prelude.{◌≤◌, vec_capacity};
+    ghost use Rattle.std.specs.Prelude.{◌≡◌, ◌≤◌, [], vec_capacity};
     ghost use Rattle.hpack_codec.specs.DecoderState.{DecoderState};
 
     ghost Value = { DecoderState };
 
     ghost view = { λ d. record { table = d.table; refused = d.refused } };
 
-    ghost invariant = { λ d. 65538 ≤ vec_capacity d.scratch };
+    ghost invariant = { λ d. (65538 ≤ vec_capacity d.scratch) × (d.scratch.items ≡ []) };
 }
 
 impl Decoder {
@@ -84,7 +85,9 @@ impl Decoder {
         if let Some(fault) = self.refused {
             return Err(fault);
         }
-        match read_block(block, &mut self.table, &mut self.scratch, fields) {
+        let read = read_block(block, &mut self.table, &mut self.scratch, fields);
+        self.scratch.clear();
+        match read {
             Ok(()) => Ok(()),
             Err(fault) => {
                 fields.clear();
@@ -95,7 +98,8 @@ impl Decoder {
     }
 }
 
-/// Appends the fields of a block, in order, and makes the table that after it.
+/// Puts the fields of a block, in order, into a list that has none yet, and turns the table into that behind the
+/// block. Where the block is refused some of its fields may stand, and the table is of no use.
 fn read_block(
     block: &[u8],
     table: &mut DynamicTable,

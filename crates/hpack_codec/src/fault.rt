@@ -16,6 +16,11 @@ pub enum BlockFault {
 }
 
 impl fmt::Display for BlockFault {
+    ghost use Rattle.std.specs.Prelude.{Some};
+    ghost use Rattle.hpack_codec.specs.BlockFaultTexts.{block_fault_text};
+
+    ghost output = { λ fault. Some (block_fault_text fault) };
+
     fn fmt<W: fmt::Write>(&self, f: &mut fmt::Formatter<W>) -> fmt::Result {
         match self {
             BlockFault::Bad(offset) => write!(f, "bad header field at byte {offset}"),

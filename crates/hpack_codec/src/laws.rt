@@ -1,5 +1,5 @@
 //! Laws of the blocks that are written and read.
-ghost use Rattle.std.specs.Prelude.{◌≡◌, ◌<◌, ◌≤◌, ◌↔◌, ◌++◌, ℕ, Bool, List, [], ◌∷◌, None, Some, Result};
+ghost use Rattle.std.specs.Prelude.{◌≡◌, ◌<◌, ◌≤◌, ◌↔◌, ◌++◌, ℕ, Bool, List, [], ◌∷◌, length, None, Some, Result};
 ghost use Rattle.std.specs.List.{AllByRecursion};
 ghost use Rattle.base.specs.Bytes.{AreBytes};
 ghost use Rattle.base.specs.Extends.{Extends};
@@ -7,12 +7,12 @@ ghost use Rattle.hpack_codec.specs.declared.fault.BlockFault.{BlockFault};
 ghost use Rattle.hpack_codec.specs.declared.fault.BlockFault.TheVariants.{Bad, TooLong};
 ghost use Rattle.hpack_codec.specs.PrefixInteger.{integer_in};
 ghost use Rattle.hpack_codec.specs.StaticTable.{HeaderField};
-ghost use Rattle.hpack_codec.specs.AddedEntries.{IsAdded, IsEvictedTo, IsResized};
+ghost use Rattle.hpack_codec.specs.AddedEntries.{IsAdded, IsEvictedTo, IsResized, IsWithinSize};
 ghost use Rattle.hpack_codec.specs.BlockRepresentations.{IsBadAt, IsListOfRepresentations, PassesLimit};
 ghost use Rattle.hpack_codec.specs.ConnectionBlocks.{AreToldBy, blocks_given, DecodeCall, go_on_with, header_blocks};
 ghost use Rattle.hpack_codec.specs.ConnectionBlocks.{IsDecoderRun, IsNextAnswer, StandsForBlocks};
 ghost use Rattle.hpack_codec.specs.DecoderState.{DecoderState, IsDecoded, next_block};
-ghost use Rattle.hpack_codec.specs.DynamicTable.{added_to, fields_size, HeaderTable, kept_within, resized_to};
+ghost use Rattle.hpack_codec.specs.DynamicTable.{added_to, fields_size, first_table, HeaderTable, kept_within, resized_to};
 ghost use Rattle.hpack_codec.specs.FieldRepresentation.{Representation, representation_in};
 ghost use Rattle.hpack_codec.specs.Huffman.{huffman_text};
 ghost use Rattle.hpack_codec.specs.HuffmanCodes.{code_of, IsHuffmanCoded};
@@ -116,10 +116,21 @@ pub fn blocks_go_through_one_table()
         → AreToldBy (header_blocks old.table (blocks_given calls)) calls new }
 {}
 
-/// More blocks go on from the table that those before them left, unless one was refused.
+/// More blocks go on from the table that those before them left, unless one was refused. Each block has its list of
+/// fields exactly where none was refused.
 pub fn connections_go_on()
-    ensures { (t : HeaderTable) (front more : List (List ℕ))
+    ensures joined { (t : HeaderTable) (front more : List (List ℕ))
         → header_blocks t (front ++ more) ≡ go_on_with (header_blocks t front) (header_blocks t front).fault more }
+    ensures lists { (t : HeaderTable) (blocks : List (List ℕ))
+        → ((header_blocks t blocks).fault ≡ None) ↔ (length (header_blocks t blocks).lists ≡ length blocks) }
+{}
+
+/// Blocks keep a table within its size: its fields have the size that is set at most, and that is 4,096 at most (RFC
+/// 7541, sections 4.2 to 4.4). The table of a new connection is so.
+pub fn tables_stay_within_their_size()
+    ensures first { IsWithinSize first_table }
+    ensures blocks { (t : HeaderTable) (blocks : List (List ℕ)) → IsWithinSize t
+        → IsWithinSize (header_blocks t blocks).table }
 {}
 
 /// A decoder stands for the blocks that it was given: each call of `decode` adds one, and answers what that

@@ -5,6 +5,7 @@ pub mod TemplateMatch
 pub mod PercentDecoding
 pub mod EscapedSlashes
 pub mod TemplateFaults
+pub mod TemplateFaultTexts
 pub mod TemplateMachine
 pub mod TemplateLimits
 pub mod Tokens

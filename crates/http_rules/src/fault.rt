@@ -29,11 +29,16 @@ impl From<NoMemory> for TemplateFault {
 }
 
 impl fmt::Display for TemplateFault {
+    ghost use Rattle.std.specs.Prelude.{Some};
+    ghost use Rattle.http_rules.specs.TemplateFaultTexts.{template_fault_text};
+
+    ghost output = { λ fault. Some (template_fault_text fault) };
+
     fn fmt<W: fmt::Write>(&self, f: &mut fmt::Formatter<W>) -> fmt::Result {
         match self {
             TemplateFault::Syntax(offset) => write!(f, "syntax fault at {offset}"),
             TemplateFault::TooMany => write!(f, "too many segments or variables"),
-            TemplateFault::NoMemory => write!(f, "out of memory"),
+            TemplateFault::NoMemory => fmt::Display::fmt(&NoMemory, f),
         }
     }
 }

@@ -70,7 +70,7 @@ fraction_digits p = drop 1 p.fraction
 abbrev pub significand : NumberParts → ℕ
 significand p = digits_value 10 (p.int ++ fraction_digits p)
 
--- the power of ten by which it is to be multiplied, and the one by which it is to be divided
+-- the power of ten by which it is to be multiplied
 abbrev pub multiplier : ℤ → ℕ
 multiplier (pos n) = 10 ^ n
 multiplier (negsuc n) = 1

@@ -32,7 +32,7 @@ escaped_character letter =
 abbrev pub IsHex4 : List ℕ → Type 0
 IsHex4 digits = (length digits ≡ 4) × AllDigits 16 digits
 
--- the first half of a surrogate pair, and the second
+-- the first half of a surrogate pair
 abbrev pub is_high_surrogate : ℕ → Bool
 is_high_surrogate unit = nat_le 55296 unit && nat_le unit 56319
 

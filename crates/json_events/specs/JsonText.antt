@@ -46,6 +46,11 @@ pub record Span : Type 0 where
   pub from : ℕ
   pub to : ℕ
 
+-- the marks of tokens
+abbrev pub marks_of : List Span → List Mark
+marks_of [] = []
+marks_of (t ∷ ts) = t.mark ∷ marks_of ts
+
 -- commas and colons are no tokens
 abbrev pub with_token : Mark → ℕ → ℕ → List Span → List Span
 with_token (opens b) from to ts = record { mark = opens b; from = from; to = to } ∷ ts

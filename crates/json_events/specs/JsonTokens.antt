@@ -63,7 +63,8 @@ abbrev pub StandInOrder : ℕ → List Span → Type 0
 StandInOrder at [] = ⊤
 StandInOrder at (t ∷ ts) = (at ≤ t.from) × (t.from < t.to) × StandInOrder t.to ts
 
--- a number that ends where so many bytes end: no further byte has shown that it has ended
+-- a number that ends where so many bytes end: `feed` gives it with its next byte shown, which is not taken, and
+-- `finish` where nothing follows
 abbrev pub IsPending : ℕ → Span → Type 0
 IsPending n t = (s : List ℕ) × (t.mark ≡ digits s) × (t.to ≡ n)
 

@@ -1,6 +1,6 @@
 -- JSON values as trees (RFC 8259, sections 3 to 7), and the marks (brackets, commas, colons, literal names,
 -- numbers, strings) of which a text is made.
-use Rattle.std.specs.Prelude.{ℕ, List, ◌∷◌}
+use Rattle.std.specs.Prelude.{ℕ, List, [], ◌∷◌}
 use Rattle.json_events.specs.declared.state.Bracket.{Bracket}
 use Rattle.json_events.specs.declared.state.Bracket.TheVariants.{Array, Object}
 use Rattle.json_events.specs.declared.state.Name.{Name}
@@ -59,3 +59,15 @@ abbrev mutual
   pub with_more_pairs : Pairs → List Mark → List Mark
   with_more_pairs no_pairs ms = closes Object ∷ ms
   with_more_pairs (pair k j ps) ms = comma ∷ key k ∷ colon ∷ with_value j (with_more_pairs ps ms)
+
+-- the marks that are tokens: all but commas and colons
+abbrev pub tokens_in : List Mark → List Mark
+tokens_in [] = []
+tokens_in (opens b ∷ ms) = opens b ∷ tokens_in ms
+tokens_in (closes b ∷ ms) = closes b ∷ tokens_in ms
+tokens_in (comma ∷ ms) = tokens_in ms
+tokens_in (colon ∷ ms) = tokens_in ms
+tokens_in (key s ∷ ms) = key s ∷ tokens_in ms
+tokens_in (text s ∷ ms) = text s ∷ tokens_in ms
+tokens_in (digits s ∷ ms) = digits s ∷ tokens_in ms
+tokens_in (name n ∷ ms) = name n ∷ tokens_in ms

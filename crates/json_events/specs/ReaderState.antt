@@ -37,9 +37,9 @@ abbrev pub config_at : Reading → ℕ → ℕ → Option Config
 config_at r from at = word_at r.word r.is_key r.held r.place from at
 
 -- some bytes complete the word, and a number stands at the end of a value
-abbrev pub IsReadableWord : Option WordState → List ℕ → Want → Type 0
-IsReadableWord None held w = ⊤
-IsReadableWord (Some l) held w = IsOpen l × (is_number l ≡ true → w ≡ want.After)
+abbrev pub IsReadableWord : Option WordState → Want → Type 0
+IsReadableWord None w = ⊤
+IsReadableWord (Some l) w = IsOpen l × (is_number l ≡ true → w ≡ want.After)
 
 -- what is kept of a word and what is not, by its state, are no more than what came of it, which exact offsets tell
 abbrev pub KeepsLess : Option WordState → List ℕ → ℕ → ℕ → Type 0
@@ -48,7 +48,7 @@ KeepsLess (Some l) held from at = at < 2 ^ 64 - 1 → from + length held + unkep
 
 -- some bytes complete it, what is kept fits, and no more brackets are open than may be
 pub record IsReadable (r : Reading) : Type 0 where
-  pub word : IsReadableWord r.word r.held r.place.want
+  pub word : IsReadableWord r.word r.place.want
   pub holds : HoldsOnly r.word r.held
   pub kept : KeepsLess r.word r.held r.from r.at
   pub shallow : level_in r.place.want r.place.around ≤ level_limit

@@ -47,7 +47,7 @@ pub(crate) struct Progress {
     pub(crate) alloc: Global,
     /// The word that has begun, if one has.
     pub(crate) word: Option<Begun>,
-    /// What is kept of it; its room serves the next word.
+    /// What is kept of it.
     pub(crate) held: Vec<u8>,
     /// What may come behind it.
     pub(crate) spot: Spot,
@@ -374,7 +374,10 @@ impl Progress {
         ensures readable { OnOk result (IsReadable (reading_of self.new)) }
         ensures stands { IfOk result (λ token. StandsOn (reading_of self.old) (reading_of self.new) [] token) }
         ensures whole { IfOk result (λ token. IsWholeWith (StandsFor (reading_of self.old)) token) }
+        ensures once { OnOk result (pending_word (reading_of self.new).word ≡ 0) }
+        ensures none { pending_word (reading_of self.old).word ≡ 0 → IfOk result (λ token. token ≡ None) }
         ensures fault { IfErr result (λ f. IsNotWhole (StandsFor (reading_of self.old)) f) }
+        ensures syntax { IfErr result (λ f. f ≡ fault.Syntax self.old.at) }
     {
         if !self.spot.is_done() {
             return Err(JsonFault::Syntax(self.at));

@@ -1,6 +1,7 @@
 //! A reader of a text that comes in any pieces.
 
 ghost use Rattle.std.specs.Prelude.{◌≡◌, ◌+◌, ◌*◌, ◌<◌, ◌≤◌, [], length, None, Some, Err, IfOk, IfErr, IfSome, IsSome, OnOk};
+ghost use Rattle.json_events.specs.declared.fault.JsonFault.TheVariants.{NoMemory as no_memory};
 ghost use Rattle.json_events.specs.ReaderState.{Stands, KeepsNoMore};
 ghost use Rattle.json_events.specs.ReaderAnswers.{pending_word, finish_token, IsNumberToken, GoesOn, FeedsOn, IsWholeWith, IsNotWhole, IsFeedFault};
 
@@ -82,7 +83,10 @@ impl Reader {
     pub fn finish(&mut self) -> Result<Option<Spanned>, JsonFault>
         ensures stands { GoesOn self.old self.new [] (finish_token result) }
         ensures whole { IfOk result (λ token. IsWholeWith (Stands self.old) token) }
+        ensures once { OnOk result (pending_word self.new.reading.word ≡ 0) }
+        ensures none { pending_word self.old.reading.word ≡ 0 → IfOk result (λ token. token ≡ None) }
         ensures fault { self.old.fault ≡ None → IfErr result (λ f. IsNotWhole (Stands self.old) f) }
+        ensures memory { IfErr result (λ f. f ≡ no_memory → self.old.fault ≡ Some f) }
         ensures sticky { IfSome self.old.fault (λ f. (result ≡ Err f) × (self.new ≡ self.old)) }
         ensures refused { IfErr result (λ f. self.new.fault ≡ Some f) }
         ensures accepted { OnOk result (self.new.fault ≡ None) }

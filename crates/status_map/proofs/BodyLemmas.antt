@@ -43,7 +43,7 @@ more_out before out made text e =
     ap (λ xs. xs ++ escaped text) e ∙ append_assoc before (escaped made) (escaped text) ∙ ap (λ xs. before ++ xs) (sym (flat_map-append escaped_byte made text))
 
 -- U+FFFD
-replacement_utf8 : IsUtf8 replacement_bytes
+pub replacement_utf8 : IsUtf8 replacement_bytes
 unfolding encode_utf8
 replacement_utf8 = (65533 ∷ [], (refl, refl))
 

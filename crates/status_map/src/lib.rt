@@ -2,8 +2,8 @@
 //! codes (google/rpc/code.proto; gRPC over HTTP/2), the JSON body of an error, and the value of the
 //! field grpc-message.
 //!
-//! The law of grpc-messages stands in `laws`. Status details (the field grpc-status-details-bin) are
-//! neither read nor written.
+//! What holds of each grpc-message and of each body stands in `laws`. Status details (the field
+//! grpc-status-details-bin) are neither read nor written.
 #![tactic(auto)]
 
 mod codes;

@@ -142,7 +142,8 @@ word_completes w p from n h =
           ∙ word_reads t w p from n m s ts e.2 (λ held d. follows p g.ms (n + length t) s ts (after held d) g.leads g.spelled) (goes_reads g.ms p (n + length t) s ts g.leads g.spelled),
     )
 
-completes_from : (w : Option Word) (p : Place) (from n : ℕ) → IsSound w p → Completes (config w p from n)
+-- some bytes complete each configuration that is valid
+pub completes_from : (w : Option Word) (p : Place) (from n : ℕ) → IsSound w p → Completes (config w p from n)
 completes_from None p from n h =
     let r = place_ends p n in
     let all : reads (config None p from n) r.0 ≡ Some r.1 = goes_none r.0 r.1 r.2 in

@@ -1,5 +1,5 @@
 -- The tokens that have ended in the bytes at the front of a text, and the fronts that begin one.
-use Rattle.std.proofs.Common.{◌≡◌, ℕ, suc, ◌+◌, ◌≤◌, List, [], ◌∷◌, ◌++◌, length, get_or, take, Option, Some, None, refl, sym, ap, ◌∙◌, subst, arith, append_assoc}
+use Rattle.std.proofs.Common.{◌≡◌, ℕ, suc, ◌+◌, ◌<◌, ◌≤◌, List, [], ◌∷◌, ◌++◌, length, get_or, take, Option, Some, None, refl, sym, ap, ◌∙◌, subst, arith, append_assoc}
 use Rattle.std.specs.Prelude.{option_map}
 use Rattle.std.specs.List.{AllByRecursion}
 use Rattle.std.proofs.lemmas.List.{length-take-le, take_more}
@@ -9,9 +9,10 @@ use Rattle.json_events.specs.JsonText.{Span, IsTextWith, IsTextOf, BeginsText}
 use Rattle.json_events.specs.ReadingSteps.{Config, out, reads}
 use Rattle.json_events.specs.JsonTokens.{BeginsWith, HasNotEnded, HasEnded, IsWithin, level, level_limit, IsValid}
 use Rattle.json_events.specs.ReaderState.{ReaderState, Stands, IsBroken}
-use Rattle.json_events.proofs.texts.TokenLemmas.{map_given}
+use Rattle.json_events.proofs.texts.TokenLemmas.{map_given, text_of_reads}
 use Rattle.json_events.proofs.texts.TokenRuns.{reads_of_text}
 use Rattle.json_events.proofs.machine.StepLemmas.{valid_out}
+use Rattle.json_events.proofs.machine.CompletionLemmas.{completes_from}
 use Rattle.json_events.proofs.machine.CountLemmas.{CountsAt, out_counts}
 use Rattle.json_events.proofs.machine.EndedLemmas.{AllLate, reads_late, late}
 use Rattle.json_events.proofs.machine.GivenLemmas.{AllEnded, ended_later, out_ended}
@@ -87,6 +88,80 @@ ended_are_same p s t j k ts others all x h y =
 -- a front of what begins a text begins one
 pub front_begins : (p s : List ℕ) → BeginsText (p ++ s) → BeginsText p
 front_begins p s h = (s ++ h.0, h.1, subst (λ (l : List ℕ). IsTextOf h.1 l) (append_assoc p s h.0) h.2)
+
+-- behind the configuration these bytes begin what completes it
+abbrev BeginsFrom : Config → List ℕ → Type 0
+BeginsFrom c p = (s : List ℕ) × (ts : List Span) × (reads (Some c) (p ++ s) ≡ Some ts)
+
+-- so do they behind a byte
+behind_byte : (c d : Config) (b : ℕ) (p : List ℕ) → (out c b).next ≡ Some d → BeginsFrom d p → BeginsFrom c (b ∷ p)
+behind_byte c d b p e h =
+    let given = (out c b).given in
+    let all : reads (Some c) (b ∷ (p ++ h.0)) ≡ Some (given ++ h.1) =
+    ap (λ n. option_map (λ l. given ++ l) (reads n (p ++ h.0))) e ∙ ap (option_map (λ l. given ++ l)) h.2 in
+    (h.0, given ++ h.1, all)
+
+-- and without it
+without_byte : (c d : Config) (b : ℕ) (p : List ℕ) → (out c b).next ≡ Some d → BeginsFrom c (b ∷ p) → BeginsFrom d p
+without_byte c d b p e h =
+    let r = map_given (out c b).given (reads (out c b).next (p ++ h.0)) h.1 h.2 in
+    (h.0, r.0, ap (λ n. reads n (p ++ h.0)) (sym e) ∙ r.1)
+
+-- the longest front of bytes that begins what completes a configuration
+pub record Longest (c : Config) (bytes : List ℕ) : Type 0 where
+  pub count : ℕ
+  pub within : count ≤ length bytes
+  pub alive : BeginsFrom c (take count bytes)
+  pub dead : count < length bytes → BeginsFrom c (take (suc count) bytes) → ⊥
+
+longest : (bytes : List ℕ) (c : Config) → IsValid (Some c) → Longest c bytes
+longest [] c v = record {
+  count = 0;
+  within = omega arith;
+  alive = completes_from c.word c.place c.from c.at v;
+  dead = λ l h. absurd (omega (arith, l));
+}
+longest (b ∷ bytes) c v =
+    by_next (λ d. longest bytes d) (out c b).next refl (valid_out c.word c.place c.from c.at b v)
+  where
+    by_next : ((d : Config) → IsValid (Some d) → Longest d bytes) → (n : Option Config) → (out c b).next ≡ n → IsValid n
+        → Longest c (b ∷ bytes)
+    by_next ih None e x = record {
+      count = 0;
+      within = omega arith;
+      alive = completes_from c.word c.place c.from c.at v;
+      dead = λ l h.
+          let none : reads (Some c) (b ∷ h.0) ≡ None =
+          ap (λ n. option_map (λ l. (out c b).given ++ l) (reads n h.0)) e in
+          let some : reads (Some c) (b ∷ h.0) ≡ Some h.1 = h.2 in
+          absurd (cc (some, none));
+    }
+    by_next ih (Some d) e x =
+        let r = ih d x in
+        record {
+          count = suc r.count;
+          within = omega (arith, r.within);
+          alive = behind_byte c d b (take r.count bytes) e r.alive;
+          dead = λ l h. r.dead (omega (arith, l)) (without_byte c d b (take (suc r.count) bytes) e h);
+        }
+
+-- each list has a longest front that begins a text
+pub has_longest_front : (bytes : List ℕ) → (n : ℕ) × (n ≤ length bytes) × BeginsText (take n bytes)
+    × (n < length bytes → BeginsText (take (n + 1) bytes) → ⊥)
+has_longest_front bytes =
+    let begin : Config = record { word = None; place = record { want = want.Value; around = [] }; from = 0; at = 0 } in
+    let l = longest bytes begin tt in
+    let n = l.count in
+    let next : n + 1 ≡ suc n = omega arith in
+    let text = text_of_reads (take n bytes ++ l.alive.0) l.alive.1 l.alive.2 in (
+      n,
+      l.within,
+      (l.alive.0, text.0, (l.alive.1, text.1)),
+      (λ m h.
+          let longer = subst (λ k. BeginsText (take k bytes)) next h in
+          let read = reads_of_text longer.1 (take (suc n) bytes ++ longer.0) longer.2.0 longer.2.1 in
+          l.dead m (longer.0, longer.2.0, read)),
+    )
 
 -- what a fault says, without the tokens
 begins_text : (b : List ℕ) (ts : List Span) → BeginsWith b ts → BeginsText b

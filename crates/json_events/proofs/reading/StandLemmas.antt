@@ -61,7 +61,7 @@ seen_is r from at = by_word r.word
 pub seen_valid : (r : Reading) (from at : ℕ) → IsReadable r → IsValid (Some (seen r from at))
 seen_valid r from at h = by_word r.word h.word
   where
-    by_word : (w : Option WordState) → IsReadableWord w r.held r.place.want → IsSound (word_of w r.is_key r.held) r.place
+    by_word : (w : Option WordState) → IsReadableWord w r.place.want → IsSound (word_of w r.is_key r.held) r.place
     by_word None x = tt
     by_word (Some l) x = x
 
@@ -176,10 +176,10 @@ step_stands old new b (step.Before s) v deep moves at_is from_is placed bytes ts
     )
 
 -- a step leaves a reader that some bytes complete
-readable_word : (r : Reading) (from at : ℕ) → IsValid (Some (seen r from at)) → IsReadableWord r.word r.held r.place.want
+readable_word : (r : Reading) (from at : ℕ) → IsValid (Some (seen r from at)) → IsReadableWord r.word r.place.want
 readable_word r from at h = by_word r.word h
   where
-    by_word : (w : Option WordState) → IsSound (word_of w r.is_key r.held) r.place → IsReadableWord w r.held r.place.want
+    by_word : (w : Option WordState) → IsSound (word_of w r.is_key r.held) r.place → IsReadableWord w r.place.want
     by_word None x = tt
     by_word (Some l) x = x
 

@@ -1,16 +1,16 @@
 -- The tokens of a list of bytes: there is one list of them, a longer list of bytes goes on from it, and a reader
 -- has given it.
-use Rattle.std.proofs.Common.{◌≡◌, ℕ, ◌+◌, ◌<◌, ◌≤◌, ◌⊎◌, List, [], ◌∷◌, ◌++◌, length, take, drop, None, inl, inr, refl, sym, ap, ◌∙◌, subst, arith, append_assoc}
+use Rattle.std.proofs.Common.{◌≡◌, ℕ, ◌+◌, ◌<◌, ◌≤◌, ◌⊎◌, List, [], ◌∷◌, ◌++◌, length, get_or, take, drop, None, inl, inr, refl, sym, ap, ◌∙◌, subst, arith, append_assoc}
 use Rattle.std.specs.List.{AllByRecursion}
-use Rattle.std.proofs.lemmas.List.{append-nil, append_cancel_left, length-append, length-take-le, take_all, take-append-drop, take-take}
+use Rattle.std.proofs.lemmas.List.{append-nil, append_cancel_left, length-append, length-take-le, take_all, take_more, take-append-drop, take-take}
 use Rattle.std.proofs.lemmas.Bool.{cases_lt}
-use Rattle.base.proofs.EachLemmas.{each_weaker, each_both, each_part}
-use Rattle.json_events.specs.JsonTree.{Json, Mark, opens, closes, comma, colon, key, text, digits, name}
+use Rattle.base.proofs.EachLemmas.{each_part}
+use Rattle.json_events.specs.JsonTree.{Json, opens}
 use Rattle.json_events.specs.JsonText.{Span, IsTextWith, BeginsText}
-use Rattle.json_events.specs.JsonTokens.{BeginsWith, StandInOrder, EndsPast, IsPending, HasNotEnded, HasEnded, IsWithin, AreTokensOf, HaveEndedIn}
-use Rattle.json_events.specs.ReaderState.{ReaderState, Stands, IsBroken}
+use Rattle.json_events.specs.JsonTokens.{BeginsWith, StandInOrder, IsPending, HasNotEnded, HasEnded, IsWithin, AreTokensOf, HaveEndedIn}
+use Rattle.json_events.specs.ReaderState.{ReaderState, Stands, IsBroken, IsTooDeep}
 use Rattle.json_events.proofs.texts.TokenRuns.{reads_of_text}
-use Rattle.json_events.proofs.texts.OrderLemmas.{text_order, order_front, order_behind, one_pending}
+use Rattle.json_events.proofs.texts.OrderLemmas.{text_order, text_within, order_front, late_pending, text_before_opening}
 use Rattle.json_events.proofs.machine.EndedLemmas.{AllLate}
 use Rattle.json_events.proofs.machine.GivenLemmas.{AllEnded, ended_later}
 use Rattle.json_events.proofs.reading.FrontLemmas.{begin_front, ended_first, ended_are_same, front_begins, longest_front, reader_begins, reader_given, reader_others}
@@ -98,6 +98,16 @@ pub text_tokens : (j : Json) (p : List ℕ) (ts all : List Span) → AreTokensOf
 text_tokens j p ts all a x =
     text_goes_on p [] j ts all a (subst (λ (l : List ℕ). IsTextWith j l all) (sym (append-nil p)) x)
 
+-- these are one number at most, which ends where the text does
+pub text_pending : (j : Json) (p : List ℕ) (ts all : List Span) → AreTokensOf p ts → IsTextWith j p all
+    → (rest : List Span) × (all ≡ ts ++ rest) × AllByRecursion (IsPending (length p)) rest × (length rest ≤ 1)
+text_pending j p ts all a x =
+    let r = text_tokens j p ts all a x in
+    let order = subst (StandInOrder 0) r.1 (text_order j p all x) in
+    let within = subst (λ l. AllByRecursion (IsWithin (length p)) l) r.1 (text_within j p all x) in
+    let last = late_pending (length p) ts r.0 order within r.2 in
+    (r.0, r.1, last.0, last.1)
+
 -- tokens that have ended in some bytes of a list have ended before its fault
 pub ended_before : (bytes : List ℕ) (ts : List Span) (k : ℕ) → HaveEndedIn bytes ts
     → (BeginsWith (take (k + 1) bytes) ts → ⊥) → AllEnded k ts
@@ -167,17 +177,6 @@ reader_tokens r b ts e h x = record {
   no_other = reader_others r b ts e h;
 }
 
--- what ends within the bytes and has not ended in them is a number at their end
-mark_pending : (m : Mark) (n to : ℕ) → EndsPast n m to → to ≤ n → (s : List ℕ) × (m ≡ digits s) × (to ≡ n)
-mark_pending (opens b) n to x h = absurd (omega (arith, x, h))
-mark_pending (closes b) n to x h = absurd (omega (arith, x, h))
-mark_pending comma n to x h = absurd (omega (arith, x, h))
-mark_pending colon n to x h = absurd (omega (arith, x, h))
-mark_pending (key s) n to x h = absurd (omega (arith, x, h))
-mark_pending (text s) n to x h = absurd (omega (arith, x, h))
-mark_pending (digits s) n to x h = (s, refl, omega (arith, x, h))
-mark_pending (name s) n to x h = absurd (omega (arith, x, h))
-
 -- a reader has given the tokens of its bytes, and perhaps others that end where these end
 pub reader_split : (r : ReaderState) (b : List ℕ) (ts : List Span) → r.fault ≡ None → Stands r b ts
     → (us pending : List Span) × (ts ≡ us ++ pending) × AreTokensOf b us
@@ -187,18 +186,48 @@ reader_split r b ts e h =
     let t = reader_begins r b ts e h in
     let g = have_tokens b (begins_text b ts t) in
     let s = text_goes_on b t.0 t.2 g.0 (ts ++ t.1) g.1 t.3 in
-    let late : AllLate n t.1 = reader_others r b ts e h t.0 t.1 t.2 t.3 in
-    let m = ended_first n g.0 ts s.0 t.1 (sym s.1) g.1.ended late in
+    let others : AllLate n t.1 = reader_others r b ts e h t.0 t.1 t.2 t.3 in
+    let m = ended_first n g.0 ts s.0 t.1 (sym s.1) g.1.ended others in
     let split : g.0 ++ (m.0 ++ t.1) ≡ g.0 ++ s.0 =
     sym (append_assoc g.0 m.0 t.1) ∙ ap (λ l. l ++ t.1) (sym m.1) ∙ s.1 in
     let rest : m.0 ++ t.1 ≡ s.0 = append_cancel_left g.0 (m.0 ++ t.1) s.0 split in
-    let pending : AllLate n m.0 = (each_part (HasNotEnded n) m.0 t.1 (subst (AllLate n) (sym rest) s.2)).0 in
-    let given = subst (λ l. AllByRecursion (IsWithin n) l) m.1 (reader_given r b ts e h) in
-    let within = (each_part (IsWithin n) g.0 m.0 given).1 in
-    let both = each_both (HasNotEnded n) (IsWithin n) m.0 pending within in
-    let numbers = each_weaker (λ t. HasNotEnded n t × IsWithin n t) (IsPending n)
-    (λ t x. mark_pending t.mark n t.to x.0 x.1) m.0 both in
+    let late : AllLate n m.0 = (each_part (HasNotEnded n) m.0 t.1 (subst (AllLate n) (sym rest) s.2)).0 in
+    let within = subst (λ l. AllByRecursion (IsWithin n) l) m.1 (reader_given r b ts e h) in
     let order = text_order t.2 (b ++ t.0) (ts ++ t.1) t.3 in
     let front : StandInOrder 0 (g.0 ++ m.0) = subst (StandInOrder 0) m.1 (order_front ts t.1 0 order) in
-    let last = order_behind g.0 m.0 0 front in
-    (g.0, m.0, m.1, g.1, numbers, one_pending n last.0 m.0 numbers last.1)
+    let last = late_pending n g.0 m.0 front within late in
+    (g.0, m.0, m.1, g.1, last.0, last.1)
+
+-- what has ended is not the first of what has not
+none_ended : (n : ℕ) (t : Span) (more rest others : List Span) → t ∷ others ≡ more ++ rest → HasNotEnded n t
+    → AllEnded n more → more ≡ []
+none_ended n t [] rest others e late h = refl
+none_ended n t (m ∷ more) rest others e late h =
+    let same : t ≡ m = cc (e) in absurd (h.0 (subst (HasNotEnded n) same late))
+
+-- the tokens before a bracket that is too deep are those of the bytes before it
+pub deep_tokens : (bytes : List ℕ) (ts : List Span) (k : ℕ) → IsTooDeep bytes ts k → AreTokensOf (take k bytes) ts
+deep_tokens bytes ts k h =
+    let p = take k bytes in
+    let b = get_or bytes k 0 in
+    let t : Span = record { mark = opens h.bracket; from = k; to = k + 1 } in
+    let u = h.tokens.begins in
+    let more : take (k + 1) bytes ≡ p ++ b ∷ [] = take_more bytes k 0 h.within in
+    let bytes_are : take (k + 1) bytes ++ u.0 ≡ p ++ (b ∷ u.0) =
+    ap (λ (l : List ℕ). l ++ u.0) more ∙ append_assoc p (b ∷ []) u.0 in
+    let text = subst (λ (l : List ℕ). IsTextWith u.2 l (ts ++ t ∷ u.1)) bytes_are
+    (subst (IsTextWith u.2 (take (k + 1) bytes ++ u.0)) (append_assoc ts (t ∷ []) u.1) u.3) in
+    let n = length p in
+    let long : n ≡ k = length-take-le k bytes (omega (arith, h.within)) in
+    let ended : AllEnded n ts = subst (λ j. AllEnded j ts) (sym long)
+    (text_before_opening u.2 (p ++ (b ∷ u.0)) ts u.1 t h.bracket refl text) in
+    let g = have_tokens p (b ∷ u.0, u.2, (ts ++ t ∷ u.1, text)) in
+    let r = text_goes_on p (b ∷ u.0) u.2 g.0 (ts ++ t ∷ u.1) g.1 text in
+    let m = ended_first n ts g.0 (t ∷ u.1) r.0 r.1 ended r.2 in
+    let split : ts ++ t ∷ u.1 ≡ ts ++ (m.0 ++ r.0) =
+    r.1 ∙ ap (λ l. l ++ r.0) m.1 ∙ append_assoc ts m.0 r.0 in
+    let behind : t ∷ u.1 ≡ m.0 ++ r.0 = append_cancel_left ts (t ∷ u.1) (m.0 ++ r.0) split in
+    let more_ended = (each_part (HasEnded n) ts m.0 (subst (AllEnded n) m.1 g.1.ended)).1 in
+    let late : n < k + 1 = omega (arith, long) in
+    let nothing : m.0 ≡ [] = none_ended n t m.0 r.0 u.1 behind late more_ended in
+    subst (AreTokensOf p) (m.1 ∙ ap (λ l. ts ++ l) nothing ∙ append-nil ts) g.1

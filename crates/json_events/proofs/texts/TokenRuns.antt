@@ -154,7 +154,8 @@ follows p (m ∷ ms) at s ts e l x = subst Follows (sym x.4) (by_blank x.0 x.5)
     by_blank [] h = first_after p.around m ms x.1 x.2 (subst (λ w. Leads (next_in w p.around (kind_of m)) ms) e l) x.6
     by_blank (b ∷ blank) h = blank_follows b blank (blank ++ (x.1 ++ x.2)) h
 
-next_is : (o : Option Place) (ms : List Mark) → Leads o ms → (q : Place) × (o ≡ Some q) × Leads (Some q) ms
+-- where marks lead on there is a place
+pub next_is : (o : Option Place) (ms : List Mark) → Leads o ms → (q : Place) × (o ≡ Some q) × Leads (Some q) ms
 next_is None ms l = absurd l
 next_is (Some q) ms l = (q, refl, l)
 
@@ -174,7 +175,8 @@ begin_reads p q m w at s ts e h f r =
     ∙ word_reads t v q at (at + 1) m s ts x.5 f (subst (λ n. reads (gap q n) s ≡ Some ts) same r)
     ∙ ap (λ n. Some (with_token m at n ts)) (sym same)
 
-after_digits : (p q : Place) (m : Mark) (held : List ℕ) → m ≡ digits held → next p (kind_of m) ≡ Some q → q.want ≡ want.After
+-- behind a number a value has ended
+pub after_digits : (p q : Place) (m : Mark) (held : List ℕ) → m ≡ digits held → next p (kind_of m) ≡ Some q → q.want ≡ want.After
 after_digits p q m held d e = scalar_after p.want p.around q (ap (λ x. next p (kind_of x)) (sym d) ∙ e)
 
 -- spelled marks that lead to the end are read

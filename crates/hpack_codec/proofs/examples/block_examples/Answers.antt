@@ -8,6 +8,7 @@ pub returns : goal.returns
 unfolding huffman_text representation_in header_block header_block_within
 returns c = record {
   first = refl;
+  first_size = refl;
   second = refl;
   index_zero = refl;
   index_past = refl;
@@ -18,4 +19,5 @@ returns c = record {
   added = refl;
   newest = refl;
   past_newest = refl;
+  never_indexed = refl;
 }

@@ -9,5 +9,6 @@ unfolding huffman_text representation_in header_block header_block_within
 returns c = record {
   exchange = refl;
   stale = refl;
+  evicting = refl;
   behind = refl;
 }

@@ -4,7 +4,7 @@ use Rattle.h2_frames.specs.declared.stage.Stage.{Stage}
 use Rattle.h2_frames.specs.FrameReader.{Kept}
 use Rattle.h2_frames.specs.FrameWords.{left_in, fault_in, IsHeadOf}
 use Rattle.h2_frames.proofs.CallLemmas.{stuck_gives, head_gives, more_gives, last_gives, last_frame, if_done, bytes_of}
-use Rattle.h2_frames.proofs.ProgressLemmas.{head_follows, more_follows, last_follows, head_refuses, more_refuses, last_refuses, stuck_refuses}
+use Rattle.h2_frames.proofs.ProgressLemmas.{head_follows, more_follows, last_follows, head_refuses, more_refuses, last_refuses, stuck_refuses, head_stays, more_stays, last_stays}
 use Rattle.h2_frames.proofs.reader.FrameReader.feed.Goals as goal
 
 pub returns-in-Refused-clause-stands : goal.returns-in-Refused-clause-stands
@@ -126,3 +126,15 @@ returns-in-Payload-clause-refuses c =
     let l : 9 ≤ length c.args.self.now.head = subst (λ (k : Kept). 9 ≤ length k.head) c.self.view_is
     (subst (λ (t : Stage). IsHeadOf t c.self.inside.head.items) c.in-Payload.is c.self.invariant.2) in
     more_refuses c.args.self.now c.args.bytes.now c.take_more.result c.take_more.new.self l c.take_more.ensures
+
+pub returns-in-Head-clause-offset : goal.returns-in-Head-clause-offset
+returns-in-Head-clause-offset c =
+    head_stays c.args.self.now c.args.bytes.now c.take_head.result c.take_head.new.self c.take_head.ensures
+
+pub returns-in-Payload-eq0-clause-offset : goal.returns-in-Payload-eq0-clause-offset
+returns-in-Payload-eq0-clause-offset c =
+    last_stays c.args.self.now c.finish.result c.finish.new.self c.finish.ensures
+
+pub returns-in-Payload-clause-offset : goal.returns-in-Payload-clause-offset
+returns-in-Payload-clause-offset c =
+    more_stays c.args.self.now c.args.bytes.now c.take_more.result c.take_more.new.self c.take_more.ensures

@@ -12,7 +12,7 @@ use Rattle.json_events.proofs.reading.EndLemmas.{end_not_done, end_gap, end_open
 use Rattle.json_events.proofs.progress.Progress.end.Goals as goal
 
 is_open : (r : Reading) (l : WordState) → IsReadable r → r.word ≡ Some l → IsOpen l
-is_open r l h e = (subst (λ w. IsReadableWord w r.held r.place.want) e h.word).0
+is_open r l h e = (subst (λ w. IsReadableWord w r.place.want) e h.word).0
 
 holds : (r : Reading) (l : WordState) → IsReadable r → r.word ≡ Some l → HoldsWord l r.held
 holds r l h e = subst (λ w. HoldsOnly w r.held) e h.holds
