@@ -5,6 +5,7 @@ usage: first_path.py [PROGRAM]
 
 Without PROGRAM it builds the program from the checked crate.
 """
+import itertools
 import pathlib
 import subprocess
 import sys
@@ -15,10 +16,11 @@ ITEMS = ROOT / "crates/grpcjson/data/items.bin"
 
 sys.path.insert(0, str(ROOT / "scripts"))
 from program import built  # noqa: E402
-from sample_sets import num, text  # noqa: E402
+from set_parts import text  # noqa: E402
 
 USAGE, READ, WRITE = "usage\n", "read fault\n", "write fault\n"
 CUT, NO_ROUTE, LONG = ("descriptors: Wire at 0 Short\n", "descriptors: NoRoute set\n", "descriptors: TooLong\n")
+TOLD = {"check": "bindings 1\n", "routes": "GET /v1/items/{id=*} /p.S/Get - -\n"}
 
 
 def frame(payload):
@@ -59,6 +61,10 @@ def rows(folder):
         path = "" if name is None else str(folder / name)
         out = frame("00000000030a0178") if status == 0 else ""
         yield label, ["bind", path, "GET", "/v1/items/x"], out, line, status
+        for command, told in TOLD.items():
+            yield f"{command}: {label}", [command, path], told if status == 0 else "", line, status
+    yield "check of the sample set", ["check", items], TOLD["check"], "", 0
+    yield "routes of the sample set", ["routes", items], TOLD["routes"], "", 0
     words = ["bind", items, "GET", "/v1/items/x", "x-a:b", "x-c:d"]
     for count in range(7):
         if count != 4:
@@ -72,11 +78,17 @@ def rows(folder):
         ("an unknown command", ["bound", items, "GET", "/v1/items/x"]),
         ("a command that is not there yet", ["serve", items, "localhost:0", "localhost:1"]),
         ("an unknown option", ["--verbose"]),
+        ("check without a set", ["check"]),
+        ("routes without a set", ["routes"]),
+        ("check of two sets", ["check", items, items]),
+        ("routes with a method and a target", ["routes", items, "GET", "/v1/items/x"]),
+        ("check with a path that is not UTF-8", ["check", b"\xff"]),
     ]:
         yield label, given, "", USAGE, 2
     for word in ["--help", "-h", "--version", "-V"]:
         yield word, [word], None, "", 0
-    yield "bind --help", ["bind", "--help"], None, "", 0
+    for command in ["bind", "check", "routes"]:
+        yield f"{command} --help", [command, "--help"], None, "", 0
 
 
 def padded(size):
@@ -114,17 +126,21 @@ def main():
                 judge(f"{label}: output", run.stdout.decode(), out)
             count += 1
 
-        bind = [program, "bind", str(folder / "items.bin"), "GET", "/v1/items/x"]
+        set_path = str(folder / "items.bin")
+        calls = [["bind", set_path, "GET", "/v1/items/x"], ["check", set_path], ["routes", set_path]]
         closed = 'exec "$@"'
-        for label, shell, status, err in [
-            ("standard input closed", closed + " <&-", 0, ""),
-            ("standard output closed", closed + " >&-", 5, WRITE),
-            ("standard output full", closed + " >/dev/full", 5, WRITE),
-            ("standard error closed", closed + " 2>&-", 0, ""),
-        ]:
-            run = subprocess.run(["bash", "-c", shell, "bash", *bind], capture_output=True)
-            judge(f"{label}: status", run.returncode, status)
-            judge(f"{label}: error line", run.stderr.decode(), err)
+        for call, (label, shell, status, err) in itertools.product(
+            calls,
+            [
+                ("standard input closed", closed + " <&-", 0, ""),
+                ("standard output closed", closed + " >&-", 5, WRITE),
+                ("standard output full", closed + " >/dev/full", 5, WRITE),
+                ("standard error closed", closed + " 2>&-", 0, ""),
+            ],
+        ):
+            run = subprocess.run(["bash", "-c", shell, "bash", program, *call], capture_output=True)
+            judge(f"{call[0]}: {label}: status", run.returncode, status)
+            judge(f"{call[0]}: {label}: error line", run.stderr.decode(), err)
             count += 1
         shell = 'exec "$@" 2>&-'
         run = subprocess.run(["bash", "-c", shell, "bash", program], capture_output=True)

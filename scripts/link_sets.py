@@ -16,160 +16,11 @@ ROOT = pathlib.Path(__file__).resolve().parent.parent
 MADE = ROOT / "crates/set_rows"
 
 sys.path.insert(0, str(ROOT / "scripts"))
-from sample_sets import field, file, fileset, message, method, num, options, rule, service, text  # noqa: E402
-
-DOUBLE, FLOAT, INT64, UINT64, INT32, FIXED64, FIXED32, BOOL, STRING = range(1, 10)
-GROUP, MESSAGE, BYTES, UINT32, ENUM, SFIXED32, SFIXED64, SINT32, SINT64 = range(10, 19)
-INTEGERS = [INT64, UINT64, INT32, FIXED64, FIXED32, UINT32, SFIXED32, SFIXED64, SINT32, SINT64]
-
-# What more a field has: an index of a oneof, and the option of proto3.
-FIRST_ONEOF, OPTIONAL = num(9, 0), num(17, 1)
-
-# What more a message has: oneofs, and options.
-ONEOF, MESSAGE_SET, MAP_ENTRY = text(8, text(1, "o")), text(7, num(1, 1)), text(7, num(7, 1))
-
-
-def of(name, number, kind, type_name="", label=1, more=b"", json=None):
-    """FieldDescriptorProto: a field of a type."""
-    named = text(6, type_name) if type_name else b""
-    return field(name, number, label, kind, json, named + more)
-
-
-def x(kind=STRING, type_name="", number=2, label=1, more=b"", json=None):
-    """The field `x`."""
-    return of("x", number, kind, type_name, label, more, json)
-
-
-def extension(extendee, kind=STRING):
-    """FieldDescriptorProto: an extension of a message."""
-    return of("y", 100, kind, more=text(2, extendee))
-
-
-def enum(name, *values):
-    """EnumDescriptorProto of names with numbers."""
-    return text(1, name) + b"".join(text(2, text(1, value) + num(2, number)) for value, number in values)
-
-
-def entry(*fields, name="XEntry", more=b""):
-    """DescriptorProto: the entry of a map."""
-    return message(name, fields, MAP_ENTRY + more)
-
-
-def key(kind=STRING, name="key", number=1, label=1, more=b"", json=None):
-    """The key of a map's entry."""
-    return of(name, number, kind, "", label, more, json)
-
-
-def value(kind=INT32, type_name="", name="value", number=2, label=1, more=b""):
-    """The value of a map's entry."""
-    return of(name, number, kind, type_name, label, more)
-
-
-def custom(kind, template="/v1/{id}"):
-    """HttpRule of a custom kind."""
-    return text(8, text(1, kind) + text(2, template))
-
-
-def also(http):
-    """An additional binding of a rule."""
-    return text(11, http)
-
-
-def kinds(count, first=0):
-    """Additional bindings, each of a kind of its own."""
-    return b"".join(also(custom(f"K{at}", "/a")) for at in range(first, first + count))
-
-
-def empty_rule():
-    """A method whose annotation says nothing."""
-    return method(http=b"", more=text(4, options(b"")))
-
-
-def a_set(fields=(), messages=(), inner=b"", more=b"", services=None, files=(), syntax="proto3"):
-    """The set of one file, whose service S takes and gives M in Get: M has a string `id` and these
-    fields and more in it; the file has further messages and more in it; the set has further files."""
-    first = message("M", [field(), *fields], inner)
-    return fileset(file("a.proto", "p", [first, *messages], services, syntax, more), *files)
-
-
-def by_methods(*methods, **given):
-    """The same set, whose service has these methods."""
-    return a_set(services=[service("S", methods)], **given)
-
-
-def by_rule(http, **given):
-    """The same set, whose method has this rule."""
-    return by_methods(method(http=http), **given)
-
-
-def put(request=".p.M", response=".p.M", **given):
-    """The method Put."""
-    return method("Put", request, response, **given)
-
-
-def with_x(*given, **named):
-    """The same set, whose M has this field `x`, and which has an enum E and a oneof in M."""
-    return a_set([x(*given, **named)], inner=ONEOF, more=text(5, enum("E", ("A", 0))))
-
-
-def other(messages, name="b.proto", package="q", syntax="proto3", more=b""):
-    """FileDescriptorProto: a file without services."""
-    return file(name, package, messages, [], syntax, more)
-
-
-def reach(type_name, *files, label=1):
-    """The same set, whose M has a field `x` of a message of these files."""
-    return a_set([x(MESSAGE, type_name, label=label)], files=files)
-
-
-def known(name, *fields, syntax="proto3", inner=b"", more=b""):
-    """The same set, whose M has a field `x` of a message of google.protobuf."""
-    return reach(f".google.protobuf.{name}", other([message(name, fields, inner)], "b.proto", "google.protobuf", syntax, more))
-
-
-def map_of(*fields, label=3, inner=b"", messages=(), more=b"", field_more=b"", number=2):
-    """The same set, whose M has a map `x` with an entry of these fields."""
-    one = x(MESSAGE, ".p.M.XEntry", label=label, more=field_more, number=number)
-    return a_set([one], messages=messages, inner=text(3, entry(*fields)) + inner, more=more)
-
-
-def enum_set(*values, **given):
-    """The same set, whose M has a field `x` of the enum E with these values."""
-    return a_set([x(ENUM, ".p.E")], more=text(5, enum("E", *values)), **given)
-
-
-def pair(name, json=None, first="user_id", first_json=None):
-    """The same set, whose M has two fields of these names and JSON names."""
-    return a_set([of(first, 2, STRING, json=first_json), of(name, 3, STRING, json=json)])
-
-
-def runs(data, *units):
-    """Pieces of a set in which each of the units stands many times over."""
-    out, at = [], 0
-    many = b"|".join(b"(" + re.escape(unit) + b"){100,}" for unit in units)
-    for run in re.finditer(many, data, re.DOTALL):
-        unit = units[run.lastindex - 1]
-        out += [data[at : run.start()].hex(), f"{unit.hex()}*{len(run.group()) // len(unit)}"]
-        at = run.end()
-    return " ".join(piece for piece in [*out, data[at:].hex()] if piece)
-
-
-def counted(make, unit, count):
-    """Pieces of the set with so many copies of a unit, each with its number in four digits behind it."""
-    copies = b"".join(unit + f"{at:04}".encode() for at in range(count))
-    before, behind = make(copies).split(copies)
-    return f"{before.hex()} {unit.hex()}#{count} {behind.hex()}"
-
-
-# Declarations that say nothing: in a file, in a message, in a rule.
-EMPTY_MESSAGE, EMPTY_ENUM, EMPTY_EXTENSION = text(4, b""), text(5, b""), text(7, b"")
-EMPTY_NESTED, EMPTY_NESTED_ENUM, EMPTY_FIELD = text(3, b""), text(4, b""), text(2, b"")
-NAMED_MESSAGE = text(4, text(1, "0000"))[:-4]
-GET, EMPTY_RULE = also(rule("/a")), also(b"")
-FLOATS = message("N", [of("f", 1, FLOAT)])
-N, K, L = message("N", []), message("K", []), message("L", [])
-E = enum("E", ("A", 0))
-S = service()
+from binding_sets import BODIES, PATHS, ROUTES, TEMPLATES  # noqa: E402
+from name_sets import NAMES  # noqa: E402
+from order_sets import IN_BINDINGS, IN_METHODS, IN_STEPS  # noqa: E402
+from set_parts import *  # noqa: E402, F403
+from shape_sets import LINKED  # noqa: E402
 
 NAMES_AND_SIZES = [
     ("one GET", "ok", a_set()),
@@ -185,27 +36,31 @@ NAMES_AND_SIZES = [
     ("10,001 extensions are no types", "ok", runs(a_set(more=EMPTY_EXTENSION * 10_001), EMPTY_EXTENSION)),
     ("10,001 fields are no types", "BadField p.N.", runs(by_methods(method(), put(".p.N"), messages=[message("N", [b""] * 10_001)]), EMPTY_FIELD)),
     # how many bindings
-    ("10,000 bindings", "NotBuilt set", runs(by_rule(rule("/a", GET * 9_999)), GET)),
+    ("10,000 bindings", "ok", counted(lambda more: by_rule(rule("/a") + more), NUMBERED_GET, 9_999)),
+    ("10,001 bindings of other routes", "TooMany bindings", counted(lambda more: by_rule(rule("/a") + more), NUMBERED_GET, 10_000)),
+    ("10,000 bindings of one route", f"SameRoute {PATH} {PATH}", runs(by_rule(rule("/a", GET * 9_999)), GET)),
     ("10,001 bindings", "TooMany bindings", runs(by_rule(rule("/a", GET * 10_000)), GET)),
-    ("10,000 bindings of two methods", "NotBuilt set", runs(by_methods(method(http=rule("/a", GET * 4_999)), put(http=rule("/a", GET * 4_999))), GET)),
+    ("10,000 bindings of two methods", "ok", counted(lambda more: by_methods(method(http=rule("/a")), put(http=rule("/b") + more)), NUMBERED_GET, 9_998)),
+    ("10,000 bindings of one route and two methods", f"SameRoute {PATH} {PATH}", runs(by_methods(method(http=rule("/a", GET * 4_999)), put(http=rule("/a", GET * 4_999))), GET)),
     ("10,001 bindings of two methods", "TooMany bindings", runs(by_methods(method(http=rule("/a", GET * 4_999)), put(http=rule("/a", GET * 5_000))), GET)),
     ("10,000 bindings, most without a pattern", "NoPattern /p.S/Get", runs(by_rule(rule("/a", EMPTY_RULE * 9_999)), EMPTY_RULE)),
     ("10,001 bindings, most without a pattern", "TooMany bindings", runs(by_rule(rule("/a", EMPTY_RULE * 10_000)), EMPTY_RULE)),
     ("10,000 bindings, and one in an additional one", "NestedAdditional /p.S/Get", runs(by_rule(rule("/a", GET * 9_998 + also(rule("/a", GET)))), GET)),
     # how many methods
-    ("64 methods", "NotBuilt set", by_rule(custom("K") + kinds(63))),
+    ("64 methods", "ok", by_rule(custom("K") + kinds(63))),
     ("65 methods", "TooMany methods", by_rule(custom("K") + kinds(64))),
-    ("64 methods, one of them twice", "NotBuilt set", by_rule(custom("K0") + kinds(64))),
-    ("GET as a pattern and as a custom kind", "NotBuilt set", by_rule(rule("/a", also(custom("GET")) + kinds(63)))),
+    ("64 methods, one of them twice", "ok", by_rule(custom("K0") + kinds(64))),
+    ("GET as a pattern and as a custom kind", "ok", by_rule(rule("/a", also(custom("GET")) + kinds(63)))),
     ("GET as a pattern and get as a custom kind", "TooMany methods", by_rule(rule("/a", also(custom("get")) + kinds(63)))),
-    ("the five patterns and 59 kinds", "NotBuilt set", by_rule(b"".join(also(text(at, "/a")) for at in range(2, 7)) + custom("K0") + kinds(59))),
+    ("the five patterns and 59 kinds", "ok", by_rule(b"".join(also(text(at, "/a")) for at in range(2, 7)) + custom("K0") + kinds(59))),
     ("the five patterns and 60 kinds", "TooMany methods", by_rule(b"".join(also(text(at, "/a")) for at in range(2, 7)) + custom("K0") + kinds(60))),
-    ("the kind of all methods is the 64th", "NotBuilt set", by_rule(custom("*") + kinds(63))),
+    ("the kind of all methods is the 64th", "ok", by_rule(custom("*") + kinds(63))),
     ("the kind of all methods is the 65th", "TooMany methods", by_rule(custom("*") + kinds(64))),
     ("64 methods and a rule without a pattern", "NoPattern /p.S/Get", by_rule(custom("K") + kinds(63) + EMPTY_RULE)),
     ("a kind that may not be is the 64th", "BadMethod /p.S/Get HEAD", by_rule(custom("HEAD") + kinds(63))),
     ("a kind that may not be is the 65th", "TooMany methods", by_rule(custom("HEAD") + kinds(64))),
-    ("64 kinds of two methods", "NotBuilt set", by_methods(method(http=custom("K0") + kinds(32)), put(http=custom("K32") + kinds(32, 32)))),
+    ("64 methods, and another in an additional rule of an additional one", f"NestedAdditional {PATH}", by_rule(custom("K") + kinds(62) + also(custom("K62", "/a") + also(custom("K63", "/a"))))),
+    ("64 kinds of two methods", "ok", by_methods(method(http=custom("K0") + kinds(32)), put(http=custom("K32") + kinds(32, 32)))),
     ("65 kinds of two methods", "TooMany methods", by_methods(method(http=custom("K0") + kinds(32)), put(http=custom("K32") + kinds(33, 32)))),
     # types before bindings before methods
     ("10,001 messages and 10,001 bindings", "TooMany types", runs(by_rule(rule("/a", EMPTY_RULE * 10_000), more=EMPTY_MESSAGE * 10_000), EMPTY_MESSAGE, EMPTY_RULE)),
@@ -243,7 +98,7 @@ NAMES_AND_SIZES = [
     ("a service named as a nested message without the one around it", "ok", a_set(inner=text(3, N), services=[S, service("N", [])])),
     ("a service of a file's name", "ok", a_set(files=[file("b.proto", "a", [], [service("proto", [])])])),
     ("a service named as a package", "ok", a_set(files=[file("b.proto", None, [], [service("p", [])])])),
-    ("two methods of one name", "NotBuilt set", by_methods(method(), method())),
+    ("two methods of one name", "ok", by_methods(method(), method(http=rule("/b/{id}")))),
     ("two extensions of one name", "ok", a_set(more=text(7, extension(".q.N")) * 2)),
     ("an extension named as a message", "ok", a_set(messages=[message("y", [])], more=text(7, extension(".q.N")))),
     ("values of two enums of one name", "ok", a_set(more=text(5, E) + text(5, enum("F", ("A", 0))))),
@@ -301,14 +156,14 @@ METHODS_AND_RULES = [
     ("an empty rule", "NoPattern /p.S/Get", by_methods(empty_rule())),
     ("a rule with a body alone", "NoPattern /p.S/Get", by_rule(text(7, "*"))),
     ("an additional rule without a pattern", "NoPattern /p.S/Get", by_rule(rule(more=EMPTY_RULE))),
-    ("a pattern with an empty template", "NotBuilt set", by_rule(rule(""))),
+    ("a pattern with an empty template", f"TemplateAt {PATH} 0", by_rule(rule(""))),
     ("a rule whose additional one has one", "NestedAdditional /p.S/Get", by_rule(rule(more=also(rule(more=GET))))),
     ("a rule whose second additional one has one", "NestedAdditional /p.S/Get", by_rule(rule(more=GET + also(rule(more=GET))))),
     *((f"the kind {kind!r}", f"BadMethod /p.S/Get {kind}", by_rule(custom(kind))) for kind in BAD_KINDS),
     ("an empty kind", "BadMethod /p.S/Get", by_rule(custom(""))),
     ("a custom pattern that says nothing", "BadMethod /p.S/Get", by_rule(text(8, b""))),
-    *((f"the kind {kind!r}", "NotBuilt set", by_rule(custom(kind))) for kind in GOOD_KINDS),
-    ("a kind of each sign of a token", "NotBuilt set", by_rule(custom("!#$%&'*+-.^_`|~"))),
+    *((f"the kind {kind!r}", "ok", by_rule(custom(kind))) for kind in GOOD_KINDS),
+    ("a kind of each sign of a token", "ok", by_rule(custom("!#$%&'*+-.^_`|~"))),
     ("an additional kind that may not be", "BadMethod /p.S/Get HEAD", by_rule(rule(more=also(custom("HEAD"))))),
     ("a GET behind a custom kind", "ok", by_rule(custom("HEAD") + rule())),
     ("a custom kind behind a GET", "BadMethod /p.S/Get HEAD", by_rule(rule() + custom("HEAD"))),
@@ -341,46 +196,14 @@ METHODS_AND_RULES = [
     ("the second method's kind before proto2", "BadMethod /p.S/Put HEAD", by_methods(method(), put(http=custom("HEAD")), syntax="proto2")),
     ("a name twice before a float", "DoubleName p.K", a_set([x(FLOAT)], [K, K])),
     ("65 methods before a float", "TooMany methods", by_rule(custom("K") + kinds(64), fields=[x(FLOAT)])),
-    # without a fault, and no single GET of one string
-    ("two methods", "NotBuilt set", by_methods(method(), put())),
-    ("a POST", "NotBuilt set", by_rule(text(4, "/v1/items/{id}"))),
-    ("an additional GET", "NotBuilt set", by_rule(rule(more=GET))),
-    ("a body", "NotBuilt set", by_rule(rule(more=text(7, "*")))),
-    ("a response body", "NotBuilt set", by_rule(rule(more=text(12, "id")))),
-    ("a client that streams", "NotBuilt set", by_methods(method(more=num(5, 1)))),
-    ("a server that streams", "NotBuilt set", by_methods(method(more=num(6, 1)))),
-    ("a template of 64 segments", "ok", by_rule(rule("/a" * 63 + "/{id}"))),
-    ("a template of 65 segments", "NotBuilt set", by_rule(rule("/a" * 64 + "/{id}"))),
-    ("a literal behind the variable", "ok", by_rule(rule("/{id}/b"))),
-    ("a template without its slash", "NotBuilt set", by_rule(rule("v1/{id}"))),
-    ("a template with a verb", "NotBuilt set", by_rule(rule("/v1/{id}:go"))),
-    ("a template with a wildcard", "NotBuilt set", by_rule(rule("/v1/*/{id}"))),
-    ("a variable with its segment", "NotBuilt set", by_rule(rule("/v1/{id=*}"))),
-    ("a variable of many segments", "NotBuilt set", by_rule(rule("/v1/{id=**}"))),
-    ("a template with two variables", "NotBuilt set", by_rule(rule("/v1/{id}/{x}"), fields=[x()])),
-    ("a template without a variable", "NotBuilt set", by_rule(rule("/v1/items"))),
-    ("a variable of no field", "NotBuilt set", by_rule(rule("/v1/{name}"))),
-    ("a variable of a string", "ok", by_rule(rule("/v1/{x}"), fields=[x()])),
-    ("a variable of a number", "NotBuilt set", by_rule(rule("/v1/{x}"), fields=[x(INT32)])),
-    ("a variable of strings", "NotBuilt set", by_rule(rule("/v1/{x}"), fields=[x(label=3)])),
-    ("a variable of an optional string", "NotBuilt set", by_rule(rule("/v1/{x}"), fields=[x(more=OPTIONAL)])),
-    ("a variable of a member of a oneof", "NotBuilt set", by_rule(rule("/v1/{x}"), fields=[x(more=FIRST_ONEOF)], inner=ONEOF)),
-    ("a variable of a message", "NotBuilt set", by_rule(rule("/v1/{x}"), fields=[x(MESSAGE, ".p.M")])),
-    ("a variable of a field in a message", "NotBuilt set", by_rule(rule("/v1/{x.id}"), fields=[x(MESSAGE, ".p.M")])),
-    ("a variable of a field of the output alone", "NotBuilt set", by_methods(method(request=".p.N"), messages=[N])),
-    ("a variable of a field of the input alone", "ok", by_methods(method(response=".p.N"), messages=[N])),
+    # methods without a fault
+    ("two methods", "ok", by_methods(method(), put(http=rule("/b/{id}")))),
+    ("a POST", "ok", by_rule(text(4, "/v1/items/{id}"))),
+    ("an additional GET", "ok", by_rule(rule(more=GET))),
+    ("a client that streams", "ok", by_methods(method(more=num(5, 1)))),
+    ("a server that streams", "ok", by_methods(method(more=num(6, 1)))),
+    ("both sides stream", "ok", by_methods(method(http=rule("/v1/{id}", text(7, "*")), more=num(5, 1) + num(6, 1)))),
 ]
-
-SECONDS, NANOS = of("seconds", 1, INT64), of("nanos", 2, INT32)
-WRAPPERS = {"BoolValue": BOOL, "Int32Value": INT32, "Int64Value": INT64, "UInt32Value": UINT32, "UInt64Value": UINT64, "StringValue": STRING, "BytesValue": BYTES}
-PATH = "/p.S/Get"
-P = "google.protobuf"
-
-
-def wrapped(kind, **given):
-    """The field of a wrapper."""
-    return value(kind, number=1, **given)
-
 
 MESSAGES_AND_FIELDS = [
     # syntax
@@ -565,9 +388,6 @@ MESSAGES_AND_FIELDS = [
     ("the nearer of two ways", "Float p.N.f /p.S/Put", by_methods(method(), put(".p.L"), fields=[x(MESSAGE, ".p.K")], messages=[message("K", [x(MESSAGE, ".p.N")]), message("L", [x(MESSAGE, ".p.N")]), FLOATS])),
 ]
 
-NULL_VALUE = other([], package=P, more=text(5, enum("NullValue", ("NULL_VALUE", 0))))
-TEXT_TO_INT = (key(), value())
-BAD_ENUM = enum("E", ("A", 1))
 
 ENUMS_MAPS_AND_KEYS = [
     # enums
@@ -692,39 +512,18 @@ ENUMS_MAPS_AND_KEYS = [
 
 TABLES = [
     ("sizes_and_names_are_judged", "How large a set may be, its names, and whether it has a route.", NAMES_AND_SIZES),
+    ("full_names_are_one_text", "Full names whose parts hold dots, or are empty.", NAMES),
     ("methods_are_judged", "Methods, and their rules.", METHODS_AND_RULES),
     ("messages_are_judged", "Messages that methods reach, and their fields.", MESSAGES_AND_FIELDS),
     ("enums_maps_and_keys_are_judged", "Enums, entries of maps, and the names of fields in JSON.", ENUMS_MAPS_AND_KEYS),
+    ("templates_are_judged", "Templates.", TEMPLATES),
+    ("paths_are_judged", "The fields that variables name.", PATHS),
+    ("bodies_are_judged", "The fields that a body and a response body name.", BODIES),
+    ("routes_are_judged", "Bindings that are one route.", ROUTES),
+    ("the_first_fault_of_methods_counts", "Two faults of methods and their rules.", IN_METHODS),
+    ("the_first_fault_of_bindings_counts", "Two faults of what bindings name.", IN_BINDINGS),
+    ("the_earlier_step_counts", "Two faults of two steps, in two files.", IN_STEPS),
 ]
-
-# A set whose M has a field of each shape, in two oneofs of which one is an optional field's.
-SHAPES = fileset(
-    file(
-        messages=[
-            N,
-            message(
-                "M",
-                [
-                    field(),
-                    of("marks_of", 2, SINT64, label=3),
-                    of("tags", 3, STRING, label=3),
-                    of("stock", 4, MESSAGE, ".p.M.StockEntry", 3),
-                    of("lent", 5, BOOL, more=num(9, 0) + OPTIONAL),
-                    of("person", 6, BYTES, more=num(9, 1)),
-                    of("kind", 7, ENUM, ".p.E"),
-                    of("sequel", 8, MESSAGE, ".p.M"),
-                    of("other", 9, MESSAGE, ".p.N", 3),
-                    of("loose", 10, INT32, label=3, more=text(8, num(2, 0)), json="free"),
-                    of("card", 11, FIXED32, more=num(9, 1)),
-                    of("plain", 12, UINT64, more=OPTIONAL),
-                ],
-                text(3, entry(key(), value(ENUM, ".p.E"), name="StockEntry")) + text(8, text(1, "_lent")) + text(8, text(1, "owner")),
-            ),
-        ],
-        more=text(5, enum("D", ("Z", 0))) + text(5, E),
-    )
-)
-
 
 # A set of two files, the first with each listed field, its package, edition and options twice.
 WHOLE = (
@@ -768,7 +567,7 @@ LISTED_STRINGS = [
 
 KINDS = (
     "TooMany DoubleName NoRoute UnknownType NestedAdditional NoPattern BadMethod TemplateAt Proto2 Edition AnyType StructType "
-    "Extension KnownShape BadField Group Float BadEnum SameJsonName PathField BodyField ResponseField SameRoute NotBuilt"
+    "Extension KnownShape BadField Group Float BadEnum SameJsonName PathField BodyField ResponseField SameRoute"
 ).split()
 
 SET_FAULTS = [
@@ -788,22 +587,6 @@ LINK_FAULTS = [
     ("/p.S/Get -", "BadMethod /p.S/Get"),
     ("- -", "BadMethod "),
     ("- HEAD", "BadMethod  HEAD"),
-]
-
-# The types of SHAPES: the fields of M, and how many messages, enums, methods and bindings there are.
-SHAPE_FIELDS = [
-    "id id 1 One(Text) Single Implicit false",
-    "marks_of marksOf 2 One(Sint64) Many Implicit true",
-    "tags tags 3 One(Text) Many Implicit false",
-    "stock stock 4 One(Enumeration(EnumId(0))) Map(Text) Implicit false",
-    "lent lent 5 One(Bool) Single Explicit false",
-    "person person 6 One(Bytes) Member(0) Explicit false",
-    "kind kind 7 One(Enumeration(EnumId(0))) Single Implicit false",
-    "sequel sequel 8 Message(TypeId(0)) Single Explicit false",
-    "other other 9 Message(TypeId(1)) Many Implicit false",
-    "loose free 10 One(Int32) Many Implicit false",
-    "card card 11 One(Fixed32) Member(0) Explicit false",
-    "plain plain 12 One(Uint64) Single Explicit false",
 ]
 
 
@@ -833,9 +616,9 @@ def link_rows():
         yield "#", says, None
         for label, answer, data in cases:
             yield f"{test}:{label.replace(' ', '_')}", f"link {word(data)}", answer
-    yield "#", "Types, and texts.", None
-    counts = "2 1 1 1"
-    yield "types_have_their_shapes", f"shapes {SHAPES.hex()}", "".join(f"{line};" for line in SHAPE_FIELDS) + counts
+    yield "#", "What is linked, and texts.", None
+    for label, data, told in LINKED:
+        yield label, f"shapes {data.hex()}", "".join(f"{line};" for line in told)
     yield "kinds_have_their_texts", "kinds", "".join(f"{kind};" for kind in KINDS)
     for at, (names, answer) in enumerate(LINK_FAULTS, 1):
         yield f"faults_have_their_texts_{at}", f"link_fault {names}", answer

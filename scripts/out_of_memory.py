@@ -1,7 +1,8 @@
 #!/usr/bin/env python3
 """Runs the built program where one allocation fails, for each allocation of a call.
 
-A call whose memory fails says so with status 7, and writes no byte of an answer.
+A call whose memory fails says so with status 7, and writes no byte of an answer. Where a block is refused, the arena of
+names asks for a smaller one: then the call gives its whole answer, as with all memory.
 
 usage: out_of_memory.py [PROGRAM]
 """
@@ -15,6 +16,7 @@ ROOT = pathlib.Path(__file__).resolve().parent.parent
 ITEMS = ROOT / "crates/grpcjson/data/items.bin"
 
 sys.path.insert(0, str(ROOT / "scripts"))
+from library_set import LIB, LIB_OF_DOUBLES  # noqa: E402
 from program import built  # noqa: E402
 
 # Stands before malloc and realloc of the C library. FAIL_AT names the call that fails, from 1;
@@ -54,6 +56,8 @@ CALLS = [
     ["bind", str(ITEMS), "GET", "/v1/items/a%2Fb"],
     ["bind", str(ITEMS), "GET", "/v1/items/%ff"],
     ["bind", str(ITEMS), "GET", "/v1/other"],
+    ["check", str(ITEMS)],
+    ["routes", str(ITEMS)],
     ["bind", "/nowhere/items.bin", "GET", "/v1/items/x"],
     ["bind"],
     ["--help"],
@@ -62,7 +66,7 @@ CALLS = [
 
 def main():
     program = sys.argv[1] if len(sys.argv) > 1 else built()
-    wrong, failed = 0, 0
+    wrong, failed, whole = 0, 0, 0
     with tempfile.TemporaryDirectory() as name:
         folder = pathlib.Path(name)
         (folder / "shim.c").write_text(SHIM)
@@ -73,15 +77,21 @@ def main():
             env = {**os.environ, "LD_PRELOAD": str(shim), **more}
             return subprocess.run([program, *words], stdin=subprocess.DEVNULL, capture_output=True, env=env)
 
-        for words in CALLS:
-            run(words, COUNT_TO=str(count))
+        (folder / "library.bin").write_bytes(LIB)
+        (folder / "doubles.bin").write_bytes(LIB_OF_DOUBLES)
+        library = [["check", folder / "library.bin"], ["routes", folder / "library.bin"], ["check", folder / "doubles.bin"]]
+        for words in [*CALLS, *library]:
+            ample = run(words, COUNT_TO=str(count))
             allocations = int(count.read_text())
             if allocations == 0:
                 sys.exit("the program's allocations are not seen")
             for at in range(1, allocations + 1):
                 got = run(words, FAIL_AT=str(at))
                 failed += 1
-                if (got.returncode, got.stdout, got.stderr) != (7, b"", b"out of memory\n"):
+                answer = (got.returncode, got.stdout, got.stderr)
+                if answer == (ample.returncode, ample.stdout, ample.stderr):
+                    whole += 1
+                elif answer != (7, b"", b"out of memory\n"):
                     wrong += 1
                     print(f"{words}: allocation {at}: {got.returncode} {got.stdout!r} {got.stderr!r}")
     print(f"{failed} allocations failed one at a time, {wrong} differences")

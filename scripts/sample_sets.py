@@ -5,9 +5,9 @@ usage: sample_sets.py [--check]
 
 It writes
   crates/grpcjson/data/items.bin the set of items.proto, without imports
-  crates/bind_rows/stdin         the rows of `bind`: requests, words, faults of the outside, and sets: for
-                                 faults of reading, of linking and each point of the form that is served,
-                                 one that breaks it alone and one at its edge
+  crates/bind_rows/stdin         the rows of `bind`, `check` and `routes`: requests, words, faults of the outside, and
+                                 sets: for faults of reading, of linking and each point of the form that `bind`
+                                 serves, one that breaks it alone and one at its edge; and the library's set
   crates/bind_rows/stdout        their answers
 With --check it writes nothing, and fails where a file differs from what it would write.
 """
@@ -16,115 +16,16 @@ import sys
 
 ROOT = pathlib.Path(__file__).resolve().parent.parent
 
-
-def varint(n, size=0):
-    """The shortest varint of n, or one of `size` bytes."""
-    n &= (1 << 64) - 1
-    out = bytearray()
-    while n >= 128 or len(out) + 1 < size:
-        out.append(n % 128 + 128)
-        n //= 128
-    out.append(n)
-    return bytes(out)
-
-
-def tag(number, wire, size=0):
-    return varint(number * 8 + wire, size)
-
-
-def text(number, value):
-    """A LEN record: a string, or a message that is given as its bytes."""
-    if isinstance(value, str):
-        value = value.encode()
-    return tag(number, 2) + varint(len(value)) + value
-
-
-def num(number, n, size=0):
-    """A VARINT record."""
-    return tag(number, 0) + varint(n, size)
-
-
-def field(name="id", number=1, label=1, kind=9, json="id", more=b""):
-    """FieldDescriptorProto."""
-    out = text(1, name)
-    out += b"" if number is None else num(3, number)
-    out += b"" if label is None else num(4, label)
-    out += b"" if kind is None else num(5, kind)
-    out += more
-    out += b"" if json is None else text(10, json)
-    return out
-
-
-def message(name="M", fields=None, more=b""):
-    """DescriptorProto."""
-    out = text(1, name)
-    for one in [field()] if fields is None else fields:
-        out += text(2, one)
-    return out + more
-
-
-def rule(template="/v1/items/{id}", more=b""):
-    """google.api.HttpRule with a GET."""
-    return text(2, template) + more
-
-
-def options(http):
-    """MethodOptions with the extension google.api.http."""
-    return text(72295728, http)
-
-
-def method(name="Get", request=".p.M", response=".p.M", http=None, more=b""):
-    """MethodDescriptorProto."""
-    out = text(1, name) + text(2, request) + text(3, response)
-    out += text(4, options(rule() if http is None else http)) if http != b"" else b""
-    return out + more
-
-
-def service(name="S", methods=None):
-    """ServiceDescriptorProto."""
-    out = text(1, name)
-    for one in [method()] if methods is None else methods:
-        out += text(2, one)
-    return out
-
-
-def file(name="a.proto", package="p", messages=None, services=None, syntax="proto3", more=b""):
-    """FileDescriptorProto."""
-    out = text(1, name) + (b"" if package is None else text(2, package))
-    for one in [message()] if messages is None else messages:
-        out += text(4, one)
-    for one in [service()] if services is None else services:
-        out += text(6, one)
-    out += more
-    return out + (b"" if syntax is None else text(12, syntax))
-
-
-def fileset(*files):
-    """FileDescriptorSet."""
-    return b"".join(text(1, one) for one in files)
-
-
-def of_message(**given):
-    return fileset(file(messages=[message(**given)]))
-
-
-def of_field(**given):
-    return of_message(fields=[field(**given)])
-
-
-def of_method(**given):
-    return fileset(file(services=[service(methods=[method(**given)])]))
-
-
-def of_rule(template="/v1/items/{id}", more=b""):
-    return of_method(http=rule(template, more))
-
+sys.path.insert(0, str(ROOT / "scripts"))
+from set_parts import *  # noqa: E402, F403
+from told_sets import FAULTY, ITEM_ROUTE, SERVED  # noqa: E402
 
 ITEMS = fileset(file())
 ENUM = text(1, "E") + text(2, text(1, "ZERO") + num(2, 0))
 NAMES = [field(), field("b_c", 2, json="bC")]
 SHORT = "/v1/items/x"
 
+# What `bind` answers: the request is served, or not yet; every other answer is a fault of the set.
 READ, NOT_BUILT = "read", "not built"
 
 
@@ -141,7 +42,7 @@ def groups(depth):
     return tag(100, 3) * depth + tag(100, 4) * depth
 
 
-# label, set, target, whether the set is served, or why not
+# label, set, target, whether `bind` serves it, or why not
 CASES = [
     ("the sample set", ITEMS, SHORT, READ),
     ("without its last byte", ITEMS[:-1], SHORT, "Wire at 0 Short"),
@@ -236,7 +137,7 @@ CASES = [
     ("type bytes", of_field(kind=12), SHORT, NOT_BUILT),
     ("no type", of_field(kind=None), SHORT, "BadField p.M.id"),
     ("label required", of_field(label=2), SHORT, "BadField p.M.id"),
-    ("label repeated", of_field(label=3), SHORT, NOT_BUILT),
+    ("label repeated", of_field(label=3), SHORT, "PathField /p.S/Get id"),
     ("no label", of_field(label=None), SHORT, "BadField p.M.id"),
     ("an oneof index", of_message(fields=[field(more=num(9, 0))], more=text(8, text(1, "o"))), SHORT, NOT_BUILT),
     ("proto3 optional", of_field(more=num(17, 1)), SHORT, NOT_BUILT),
@@ -258,6 +159,8 @@ CASES = [
     ("two services", fileset(file(services=[service(), service("T", [])])), SHORT, READ),
     ("no method", fileset(file(services=[service(methods=[])])), SHORT, "NoRoute set"),
     ("two methods", fileset(file(services=[service(methods=[method(), method("Put", http=b"")])])), SHORT, READ),
+    ("two methods with rules", fileset(file(services=[service(methods=[method(), method("Put", http=rule("/v2/{id}"))])])), SHORT, NOT_BUILT),
+    ("two methods with one route", fileset(file(services=[service(methods=[method(), method("Put")])])), SHORT, "SameRoute /p.S/Get /p.S/Put"),
     ("a client that streams", of_method(more=num(5, 1)), SHORT, NOT_BUILT),
     ("a server that streams", of_method(more=num(6, 1)), SHORT, NOT_BUILT),
     ("neither streams, said", of_method(more=num(5, 0) + num(6, 0)), SHORT, READ),
@@ -271,33 +174,43 @@ CASES = [
     ("a POST", of_method(http=text(4, "/v1/items/{id}")), SHORT, NOT_BUILT),
     ("a GET behind a PUT", of_method(http=text(3, "/v1/{id}") + rule()), SHORT, READ),
     ("a PUT behind a GET", of_rule(more=text(3, "/v1/{id}")), SHORT, NOT_BUILT),
-    ("a custom pattern", of_method(http=text(8, text(1, "GET") + text(2, "/v1/items/{id}"))), SHORT, NOT_BUILT),
+    ("a custom kind GET", of_method(http=text(8, text(1, "GET") + text(2, "/v1/items/{id}"))), SHORT, READ),
+    ("a custom kind", of_method(http=text(8, text(1, "K") + text(2, "/v1/items/{id}"))), SHORT, NOT_BUILT),
     ("a body", of_rule(more=text(7, "*")), SHORT, NOT_BUILT),
+    ("a body of no field", of_rule(more=text(7, "name")), SHORT, "BodyField /p.S/Get name"),
     ("an empty body", of_rule(more=text(7, "")), SHORT, READ),
     ("a response body", of_rule(more=text(12, "id")), SHORT, NOT_BUILT),
+    ("a response body of no field", of_rule(more=text(12, "*")), SHORT, "ResponseField /p.S/Get *"),
     ("an additional binding", of_rule(more=text(11, rule("/v2/{id}"))), SHORT, NOT_BUILT),
     # the template
     ("a variable alone", of_rule("/{id}"), "/x", READ),
     ("a literal behind the variable", of_rule("/{id}/b"), "/x/b", READ),
     ("each literal byte", of_rule("/azAZ09-._~!$&'()+,;=@/{id}"), "/azAZ09-._~!$&'()+,;=@/x", READ),
     ("64 segments", of_rule("/a" * 63 + "/{id}"), "/a" * 63 + "/x", READ),
-    ("65 segments", of_rule("/a" * 64 + "/{id}"), "/a" * 64 + "/x", NOT_BUILT),
+    ("65 segments", of_rule("/a" * 64 + "/{id}"), "/a" * 64 + "/x", "TemplateAt /p.S/Get many"),
     ("no variable", of_rule("/v1/items"), SHORT, NOT_BUILT),
     ("two variables", fileset(file(messages=[message(fields=NAMES)], services=[service(methods=[method(http=rule("/v1/{id}/{b_c}"))])])), SHORT, NOT_BUILT),
-    ("one variable twice", of_rule("/v1/{id}/{id}"), SHORT, NOT_BUILT),
-    ("a variable of another name", of_rule("/v1/items/{name}"), SHORT, NOT_BUILT),
-    ("a variable with its segments", of_rule("/v1/items/{id=*}"), SHORT, NOT_BUILT),
-    ("a variable of no name", of_rule("/v1/items/{}"), SHORT, NOT_BUILT),
-    ("an open brace", of_rule("/v1/items/{id"), SHORT, NOT_BUILT),
+    ("one variable twice", of_rule("/v1/{id}/{id}"), SHORT, "PathField /p.S/Get id"),
+    ("a variable of another name", of_rule("/v1/items/{name}"), SHORT, "PathField /p.S/Get name"),
+    ("a variable with its segment", of_rule("/v1/items/{id=*}"), SHORT, READ),
+    ("a variable of a literal", of_rule("/v1/items/{id=x}"), SHORT, NOT_BUILT),
+    ("a variable of two segments", of_rule("/v1/{id=items/*}"), SHORT, NOT_BUILT),
+    ("a variable of all that follows", of_rule("/v1/items/{id=**}"), SHORT, NOT_BUILT),
+    ("a variable in a message", of_message(fields=[field(), field("x", 2, 1, 11, "x", text(6, ".p.M"))]), SHORT, READ),
+    ("a variable of a field in a message", fileset(file(messages=[message(fields=[field("x", 2, 1, 11, "x", text(6, ".p.N"))]), message("N")], services=[service(methods=[method(http=rule("/v1/items/{x.id}"))])])), SHORT, NOT_BUILT),
+    ("a variable of no name", of_rule("/v1/items/{}"), SHORT, "TemplateAt /p.S/Get 11"),
+    ("an open brace", of_rule("/v1/items/{id"), SHORT, "TemplateAt /p.S/Get 13"),
     ("a verb", of_rule("/v1/items/{id}:go"), SHORT, NOT_BUILT),
-    ("a wildcard", of_rule("/v1/*/{id}"), SHORT, NOT_BUILT),
-    ("a slash at the end", of_rule("/v1/items/{id}/"), SHORT, NOT_BUILT),
-    ("no slash at the front", of_rule("v1/items/{id}"), SHORT, NOT_BUILT),
-    ("two slashes", of_rule("/v1//{id}"), SHORT, NOT_BUILT),
-    ("an escape", of_rule("/v%31/{id}"), SHORT, NOT_BUILT),
-    ("a blank", of_rule("/v 1/{id}"), SHORT, NOT_BUILT),
-    ("a letter that is not ASCII", of_rule("/v\u00e9/{id}"), SHORT, NOT_BUILT),
-    ("an empty template", of_rule(""), SHORT, NOT_BUILT),
+    ("a wildcard", of_rule("/v1/*/{id}"), SHORT, READ),
+    ("a wildcard behind the variable", of_rule("/v1/{id}/*"), "/v1/x/items", READ),
+    ("all that follows behind the variable", of_rule("/v1/items/{id}/**"), SHORT, NOT_BUILT),
+    ("a slash at the end", of_rule("/v1/items/{id}/"), SHORT, "TemplateAt /p.S/Get 15"),
+    ("no slash at the front", of_rule("v1/items/{id}"), SHORT, "TemplateAt /p.S/Get 0"),
+    ("two slashes", of_rule("/v1//{id}"), SHORT, "TemplateAt /p.S/Get 4"),
+    ("an escape", of_rule("/v%31/{id}"), SHORT, "TemplateAt /p.S/Get 2"),
+    ("a blank", of_rule("/v 1/{id}"), SHORT, "TemplateAt /p.S/Get 2"),
+    ("a letter that is not ASCII", of_rule("/v\u00e9/{id}"), SHORT, "TemplateAt /p.S/Get 2"),
+    ("an empty template", of_rule(""), SHORT, "TemplateAt /p.S/Get 0"),
 ]
 
 
@@ -353,8 +266,14 @@ USAGE = [
     ["bind", "items.bin", "GET", "/v1/items/\x7f"],
     ["Bind", "items.bin", "GET", "/v1/items/x"],
     ["serve", "items.bin", "l", "u"],
-    ["routes", "items.bin"],
-    ["check", "items.bin"],
+    ["routes"],
+    ["check"],
+    ["routes", "items.bin", "GET"],
+    ["check", "items.bin", "items.bin"],
+    ["check", "items.bin", "GET", "/v1/items/x"],
+    ["Check", "items.bin"],
+    ["route", "items.bin"],
+    ["routes", "items.bin", ""],
     ["answer", "items.bin", "GET", "/v1/items/x", "0", ""],
     ["load", "1"],
     ["expand", "items.bin", "0"],
@@ -401,6 +320,27 @@ def bind(target, method="GET"):
     return ["bind", "items.bin", method, target]
 
 
+def told_rows():
+    """Rows of `check` and `routes`."""
+    for at, (label, data, routes) in enumerate(SERVED, 1):
+        lines = "".join(f"{line}\n" for line in routes)
+        yield row(f"sets_are_told:check_{label}", ["check", "items.bin"], 0, f"bindings {len(routes)}\n", data=data)
+        yield row(f"sets_are_told:routes_{label}", ["routes", "items.bin"], 0, lines, data=data)
+    long = ("a set that is too long", padded(16_777_217), "TooLong")
+    for label, data, fault in [*FAULTY, long]:
+        for command in ["check", "routes"]:
+            yield row(f"faulty_sets_are_not_told:{command}_{label}", [command, "items.bin"], 3, "", f"descriptors: {fault}\n", data)
+    test = "faults_of_the_outside_end_check_and_routes"
+    for at, (command, whole) in enumerate([("check", "bindings 1\n"), ("routes", f"{ITEM_ROUTE}\n")]):
+        words = [command, "items.bin"]
+        yield row(f"{test}_{command}_1", words, 0, whole, room=len(whole))
+        yield row(f"{test}_{command}_2", [command, "lost.bin"], 4, "", "read fault\n")
+        yield row(f"{test}_{command}_3", words, 5, "", "write fault\n", failing=0)
+        yield row(f"{test}_{command}_4", words, 5, "", "write fault\n", room=0)
+        yield row(f"{test}_{command}_5", words, 5, whole[:-1], "write fault\n", room=len(whole) - 1)
+        yield row(f"{test}_{command}_6", [command, ""], 4, "", "read fault\n")
+
+
 def bind_rows():
     for at, (target, payload) in enumerate(BOUND, 1):
         yield row(f"bound_requests_print_their_frame_{at}", bind(target), 0, frame(payload))
@@ -426,8 +366,22 @@ def bind_rows():
         if verdict == READ:
             path, payload = OTHER_ANSWERS.get(label.split(":")[1], ("/p.S/Get", "0a0178"))
             yield row(label, bind(target), 0, frame(payload, path), data=data)
+        elif verdict == NOT_BUILT:
+            yield row(label, bind(target), 9, "", f"refused {REFUSED_NOT_BUILT}\n", data)
         else:
             yield row(label, bind(target), 3, "", f"descriptors: {verdict}\n", data)
+    for at, (method_word, target) in enumerate([("GET", SHORT), ("POST", SHORT), ("GET", "/other"), ("GET", "/v1/items/%ff")], 1):
+        words = bind(target, method_word)
+        yield row(f"sets_of_another_form_are_not_built_{at}", words, 9, "", f"refused {REFUSED_NOT_BUILT}\n", of_rule("/v1/items/{id}:go"))
+    test, short_set = "the_set_counts_before_the_request_and_the_request_before_writing", ITEMS[:-1]
+    yield row(f"{test}_1", bind(SHORT, "POST"), 3, "", "descriptors: Wire at 0 Short\n", short_set, failing=0)
+    yield row(f"{test}_2", ["bind", "lost.bin", "POST", SHORT], 4, "", "read fault\n", short_set, failing=0)
+    yield row(f"{test}_3", bind(SHORT, "POST"), 9, "", f"refused {REFUSED_NOT_BUILT}\n", failing=0)
+    yield row(f"{test}_4", bind("/other"), 9, "", f"refused {UNKNOWN}\n", failing=0)
+    yield row(f"{test}_5", ["check", "items.bin"], 3, "", "descriptors: Wire at 0 Short\n", short_set, failing=0)
+    yield row(f"{test}_6", ["routes", "lost.bin"], 4, "", "read fault\n", failing=0)
+    yield row(f"{test}_7", ["bind", "lost.bin", "G T", SHORT], 2, "", "usage\n", failing=0)
+    yield from told_rows()
 
 
 def main():

@@ -1,12 +1,17 @@
-"""How fast the parts are: runs the program `speed` and prints a table. It is no check: it fails on nothing.
+"""How fast the parts are: runs the program `speed`, and `check` over large sets, and prints a table. It is no check: it fails
+on nothing.
 
 Usage: python3 scripts/speed.py [MIB]
 """
+import pathlib
 import subprocess
 import sys
+import tempfile
 import time
 
 import program
+from big_sets import bound_types, like_scopes, many_bindings, many_variables, named_messages, under_scope
+from set_parts import a_set
 
 ROWS = [
     ("JSON tokens, pieces of 16,384 bytes", "tokens"),
@@ -18,15 +23,48 @@ ROWS = [
 ]
 
 
-def seconds(path, what, size):
+# Sets that are linked: a label, how one of a size is made, and two sizes.
+SETS = [
+    ("types, each with a binding", bound_types, 1_000, 10_000),
+    ("bindings of one method", many_bindings, 1_000, 10_000),
+    ("bindings of 16 variables over as many fields", many_variables, 100, 1_000),
+    ("messages under a name of 100 KB", lambda count: under_scope(count - 2, 100_000), 1_000, 10_000),
+    ("messages with names of 1,600 bytes", lambda count: named_messages(count - 1, 1_600), 1_000, 10_000),
+    ("bytes in each name of 16 messages that end alike, around the same 600,", lambda size: like_scopes(16, size, 600), 10_000, 100_000),
+]
+
+
+def shortest(words):
     """The shortest of three runs."""
     best = None
     for _ in range(3):
         start = time.monotonic()
-        subprocess.run([path, what, str(size)], stdout=subprocess.DEVNULL, check=True)
+        subprocess.run(words, stdin=subprocess.DEVNULL, stdout=subprocess.DEVNULL, check=True)
         taken = time.monotonic() - start
         best = taken if best is None else min(best, taken)
     return best
+
+
+def seconds(path, what, size):
+    """The time of a part of `speed`."""
+    return shortest([path, what, str(size)])
+
+
+def linking(path, folder, data):
+    """The time in which `check` reads and links a set."""
+    (folder / "set.bin").write_bytes(data)
+    return shortest([path, "check", folder / "set.bin"])
+
+
+def print_sets():
+    """The times of linking, and how much longer ten times as many take."""
+    path = program.built()
+    with tempfile.TemporaryDirectory() as name:
+        folder = pathlib.Path(name)
+        least = linking(path, folder, a_set())
+        for title, make, small, large in SETS:
+            few, many = (linking(path, folder, make(count)) - least for count in (small, large))
+            print(f"{large:,} {title} linked in {many:.3f} s, {small:,} in {few:.3f} s: {many / max(few, 0.0005):.1f} times as long")
 
 
 def main():
@@ -37,6 +75,8 @@ def main():
         print(f"{title}: {size} MiB in {taken:.2f} s, {size * 1.048576 / taken:.0f} MB/s")
     for items in [100_000, 200_000, 400_000]:
         print(f"{items:,} list items twice and {items // 10:,} map entries by falling key: {seconds(path, 'many', items):.3f} s")
+    print_sets()
 
 
-main()
+if __name__ == "__main__":
+    main()

@@ -1,4 +1,4 @@
-//! Answers rows about `bind`, over files and streams in memory.
+//! Answers rows about `bind`, `check` and `routes`, over files and streams in memory.
 //!
 //! A row has a label, the room of the output in bytes, the number of the write that fails or `-` for none, the
 //! bytes of the file `items.bin`, and the words of a command line as words of bytes. Its answer is the status,

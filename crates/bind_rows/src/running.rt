@@ -52,7 +52,7 @@ pub(crate) fn ran(alloc: Global, room: usize, failing: &str, row: &mut Row) -> i
     let words = words_of(alloc, row)?;
     let mut input = FixedSource::new(Blob::new(alloc), List::new(alloc));
     let mut out = kept(FixedSink::new(alloc, room, kept(fails(alloc, failing))?))?;
-    let mut err = kept(FixedSink::new(alloc, 64, List::new(alloc)))?;
+    let mut err = kept(FixedSink::new(alloc, 256, List::new(alloc)))?;
     let status = run_offline(
         alloc,
         words.as_slice(),

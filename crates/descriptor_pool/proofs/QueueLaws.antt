@@ -180,11 +180,13 @@ module _ (types : SetTypes) (ms : List BoundMethod) where
       let same = ap length (folded_index [] (queue types ms js)) in
       omega (arith, many, same, length-map (once (queue types ms js)) (λ (j : Joined). j.message))
 
-  abbrev steps : ℕ → List Joined
+  -- the queue when so many were taken
+  abbrev pub steps : ℕ → List Joined
   steps zero = once (flat_map (method_roots types) ms)
   steps (suc n) = taken_one types (steps n) n
 
-  worked : (n : ℕ) → IsWorkedOff types ms (steps n) n
+  -- and it is worked off
+  pub worked : (n : ℕ) → IsWorkedOff types ms (steps n) n
   worked zero = worked_off_none types ms
   worked (suc n) = worked_off_more types ms (steps n) n (worked n)
 

@@ -52,7 +52,8 @@ module _ (types : SetTypes) (ms : List BoundMethod) where
     pub stands : js ≡ once (queue types ms (take at js))
     pub front : take at js ≡ taken types ms at
 
-  front_more : (js : List Joined) (at : ℕ) → IsWorkedOff js at → take (suc at) js ≡ taken types ms (suc at)
+  -- and the one that is taken next
+  pub front_more : (js : List Joined) (at : ℕ) → IsWorkedOff js at → take (suc at) js ≡ taken types ms (suc at)
   front_more js at w = ap (take (suc at)) w.stands ∙ ap (λ z. take (suc at) (once (queue types ms z))) w.front
 
   -- one more is taken

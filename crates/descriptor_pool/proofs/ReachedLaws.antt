@@ -151,7 +151,7 @@ module _ (types : SetTypes) where
       js)
 
 -- each item of a list is one of it
-each_itself : {X : Type 0} (xs : List X) → AllByRecursion (Contains xs) xs
+pub each_itself : {X : Type 0} (xs : List X) → AllByRecursion (Contains xs) xs
 each_itself xs = recursion_from_All (Contains xs) xs (All-contains_itself xs)
 
 -- each enum that is reached is one that a field names

@@ -1,19 +1,15 @@
 -- Sets and maps whose keys are texts.
-use Rattle.std.proofs.Common.{◌≡◌, ◌<◌, ◌||◌, ◌≤◌, ◌-◌, arith, ◌+◌, ℕ, Bool, true, false, cond, List, [], ◌∷◌, length, map, drop, take, get_or, Bor, Some, refl, sym, ap, ◌∙◌}
-use Rattle.std.proofs.lemmas.List.{drop_more, map_more}
-use Rattle.std.proofs.lemmas.List.Folds.{list_any-append}
-use Rattle.std.specs.List.{list_any}
+use Rattle.std.proofs.Common.{◌≡◌, ◌<◌, ◌≤◌, ◌-◌, arith, ◌+◌, ℕ, cond, List, [], ◌∷◌, length, map, drop, get_or, Bor, Some, sym, ap, ◌∙◌}
+use Rattle.std.proofs.lemmas.List.{drop_more}
 use Rattle.std.proofs.lemmas.Map.Text.{btree_map_updates_str}
 use Rattle.std.specs.BTreeMap as tree
 use Rattle.std.specs.BTreeMap.{BTreeMap}
-use Rattle.std.specs.BTreeSet.{BTreeSet}
 use Rattle.std.specs.Cmp.Lexicographic.{slice_cmp}
 use Rattle.std.specs.Ordering.{nat_cmp}
 use Rattle.std.specs.Str.{bytes_eq}
 use Rattle.base.proofs.TextLemmas.{bytes_eq_swap}
 use Rattle.descriptor_pool.specs.DeclaredTypes.{first_from}
 use Rattle.descriptor_pool.specs.NameIndex.{index_at}
-use Rattle.descriptor_pool.specs.TextSets.{has}
 
 -- after the name at an index got that index, the map has the index of each name from there on
 pub index_more : (names : List (Bor (List ℕ))) (at : ℕ) (m n : BTreeMap (Bor (List ℕ)) ℕ) (name : Bor (List ℕ)) (rest : List (Bor (List ℕ)))
@@ -24,23 +20,6 @@ index_more names at m n name rest h held q =
     btree_map_updates_str name.now m n (Some at) h q
     ∙ ap (λ z. cond z (Some at) (index_at m q)) (bytes_eq_swap name.now q)
     ∙ ap (λ z. cond (bytes_eq q name.now) (Some at) z) (held q)
-
-or_last : (b c : Bool) → (b || c) ≡ (b || (c || false))
-or_last true c = refl
-or_last false true = refl
-or_last false false = refl
-
--- a set with one text more
-pub texts_more : (names : List (Bor (List ℕ))) (i : ℕ) (s n : BTreeSet (Bor (List ℕ))) → i < length names
-    → ((q : List ℕ) → has s q ≡ list_any (bytes_eq q) (map (λ k. k.now) (take i names)))
-    → ((q : List ℕ) → has n q ≡ (has s q || bytes_eq q (get_or names i (record { ref_ptr = (0, 0); now = [] })).now))
-    → (q : List ℕ) → has n q ≡ list_any (bytes_eq q) (map (λ k. k.now) (take (i + 1) names))
-texts_more names i s n lt held more q =
-    let d : Bor (List ℕ) = record { ref_ptr = (0, 0); now = [] } in
-    more q ∙ ap (λ z. z || bytes_eq q (get_or names i d).now) (held q)
-    ∙ or_last (list_any (bytes_eq q) (map (λ k. k.now) (take i names))) (bytes_eq q (get_or names i d).now)
-    ∙ sym (list_any-append (bytes_eq q) (map (λ k. k.now) (take i names)) ((get_or names i d).now ∷ []))
-    ∙ ap (list_any (bytes_eq q)) (sym (map_more (λ (k : Bor (List ℕ)). k.now) names i d lt))
 
 -- the same with the names in a list from that index on
 pub index_at_more : (names : List (Bor (List ℕ))) (at : ℕ) (m n : BTreeMap (Bor (List ℕ)) ℕ) → 0 < at → at ≤ length names

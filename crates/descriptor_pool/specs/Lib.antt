@@ -3,10 +3,14 @@ pub mod DeclaredNames
 pub mod DeclaredTypes
 pub mod FieldTypes
 pub mod JsonFieldNames
+pub mod NameFalls
 pub mod NameIndex
+pub mod NameOrder
+pub mod NameScopes
 pub mod QueueSteps
 pub mod ReachableTypes
 pub mod ReachedClosure
+pub mod ReachedReasons
 pub mod SetMethods
 pub mod TextSets
 pub mod WellKnownTypes

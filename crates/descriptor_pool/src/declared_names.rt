@@ -1,9 +1,10 @@
 //! What a set declares, with full names (descriptor.proto).
-ghost use Rattle.std.specs.Prelude.{◌≡◌, ◌++◌, map, string_bytes, IfOk, OnOk};
+ghost use Rattle.std.specs.Prelude.{◌≡◌, ◌++◌, map, IfOk, OnOk};
 ghost use Rattle.std.specs.List.{flat_map};
-ghost use Rattle.descriptor_pool.specs.DeclaredNames.{declarations, declared_in, enums_in, extensions_in, file_declarations, in_scope, messages_in, services_in, is_type, name_of};
+ghost use Rattle.descriptor_pool.specs.DeclaredNames.{declarations, declared_in, enums_in, extensions_in, file_declarations, messages_in, services_in, is_type, name_of};
 
-use base::{NoMemory, Text};
+use crate::full_name::{FullName, Names};
+use base::NoMemory;
 use descriptors::{EnumInfo, FieldInfo, FileInfo, FileSet, MessageInfo, ServiceInfo};
 use std::alloc::Global;
 use std::marker::Model;
@@ -20,33 +21,35 @@ pub enum Declared<'a> {
     /// A service.
     Service,
     /// An extension, under the name of the message that it extends.
-    Extension,
+    Extension(&'a FieldInfo),
 }
 
 /// One declaration of a set.
 #[derive(Drop)]
 pub struct Declaration<'a> {
     /// Its full name.
-    pub name: Text,
+    pub name: &'a FullName<'a>,
     /// What it declares.
     pub declared: Declared<'a>,
 }
 
 impl<'a> Model for Declaration<'a> {
     ghost use Rattle.descriptor_pool.specs.DeclaredNames.{Declaration as Seen};
-    ghost use Rattle.descriptor_pool.specs.DeclarationViews.{seen};
+    ghost use Rattle.descriptor_pool.specs.DeclarationViews.{IsUnder, seen};
 
     ghost Value = { Seen };
 
-    ghost view = { λ d. seen d.name d.declared };
+    ghost view = { λ d. seen d.name.now d.declared };
+
+    ghost invariant = { λ d. IsUnder d.name.now d.declared };
 }
 
 impl<'a> Declaration<'a> {
     /// The name that it is declared under.
-    pub fn name(&self) -> &str
+    pub fn name(&self) -> &'a FullName<'a>
         ensures { result.now ≡ name_of self.now }
     {
-        self.name.as_str()
+        self.name
     }
 
     /// True for a message and for an enum.
@@ -61,39 +64,18 @@ impl<'a> Declaration<'a> {
     }
 }
 
-/// Appends the name in a scope: behind the scope and a dot, or alone where the scope is empty.
-pub(crate) fn put_name(out: &mut String, scope: &str, name: &str) -> Result<(), NoMemory>
-    ensures { OnOk result (string_bytes out.new ≡ string_bytes out.old ++ in_scope scope.now name.now) }
-{
-    if !scope.is_empty() {
-        out.push_str(scope)?;
-        out.push_str(".")?;
-    }
-    out.push_str(name)?;
-    Ok(())
-}
-
-/// The name in a scope.
-fn name_in(alloc: Global, scope: &str, name: &str) -> Result<Text, NoMemory>
-    ensures { IfOk result (λ full. full ≡ in_scope scope.now name.now) }
-{
-    let mut full = String::new(alloc);
-    put_name(&mut full, scope, name)?;
-    Ok(Text::from_string(full))
-}
-
 /// Appends the enums of a scope.
 fn put_enums<'a>(
-    alloc: Global,
+    names: &'a Names,
     out: &mut Vec<Declaration<'a>>,
-    scope: &str,
+    scope: &'a FullName<'a>,
     enums: &'a [EnumInfo],
 ) -> Result<(), NoMemory>
     ensures { OnOk result (out.new.items ≡ out.old.items ++ enums_in scope.now enums.now) }
 {
     for declared in enums {
         out.push(Declaration {
-            name: name_in(alloc, scope, declared.name.as_str())?,
+            name: names.within(scope, declared.name.as_str())?,
             declared: Declared::Enum(declared),
         })?;
     }
@@ -102,16 +84,16 @@ fn put_enums<'a>(
 
 /// Appends the extensions of a file or a message.
 fn put_extensions<'a>(
-    alloc: Global,
+    names: &'a Names,
     out: &mut Vec<Declaration<'a>>,
-    extensions: &[FieldInfo],
+    extensions: &'a [FieldInfo],
 ) -> Result<(), NoMemory>
     ensures { OnOk result (out.new.items ≡ out.old.items ++ extensions_in extensions.now) }
 {
     for extension in extensions {
         out.push(Declaration {
-            name: Text::copy_of(alloc, extension.extendee.as_str())?,
-            declared: Declared::Extension,
+            name: names.plain(extension.extendee.as_str())?,
+            declared: Declared::Extension(extension),
         })?;
     }
     Ok(())
@@ -120,54 +102,53 @@ fn put_extensions<'a>(
 /// Appends a message, what is nested in it, its enums and its extensions.
 #[cycle(put)]
 fn put_message<'a>(
-    alloc: Global,
+    names: &'a Names,
     out: &mut Vec<Declaration<'a>>,
     file: &'a FileInfo,
-    scope: &str,
     message: &'a MessageInfo,
+    scope: &'a FullName<'a>,
 ) -> Result<(), NoMemory>
     ensures { OnOk result (out.new.items ≡ out.old.items ++ declared_in file.now.syntax message.now scope.now) }
 {
-    let full = name_in(alloc, scope, message.name.as_str())?;
-    let inner = full.as_str();
+    let inner = names.within(scope, message.name.as_str())?;
     out.push(Declaration {
-        name: Text::copy_of(alloc, inner)?,
+        name: inner,
         declared: Declared::Message(file, message),
     })?;
-    put_messages(alloc, out, file, inner, message.nested_type.as_slice())?;
-    put_enums(alloc, out, inner, message.enum_type.as_slice())?;
-    put_extensions(alloc, out, message.extension.as_slice())
+    put_messages(names, out, file, message.nested_type.as_slice(), inner)?;
+    put_enums(names, out, inner, message.enum_type.as_slice())?;
+    put_extensions(names, out, message.extension.as_slice())
 }
 
 /// Appends the messages of a scope, with all that is in them.
 #[cycle(put)]
 fn put_messages<'a>(
-    alloc: Global,
+    names: &'a Names,
     out: &mut Vec<Declaration<'a>>,
     file: &'a FileInfo,
-    scope: &str,
     messages: &'a [MessageInfo],
+    scope: &'a FullName<'a>,
 ) -> Result<(), NoMemory>
     ensures { OnOk result (out.new.items ≡ out.old.items ++ messages_in file.now.syntax scope.now messages.now) }
 {
     for message in messages {
-        put_message(alloc, out, file, scope, message)?;
+        put_message(names, out, file, message, scope)?;
     }
     Ok(())
 }
 
 /// Appends the services of a file.
 fn put_services<'a>(
-    alloc: Global,
+    names: &'a Names,
     out: &mut Vec<Declaration<'a>>,
-    scope: &str,
-    services: &[ServiceInfo],
+    scope: &'a FullName<'a>,
+    services: &'a [ServiceInfo],
 ) -> Result<(), NoMemory>
     ensures { OnOk result (out.new.items ≡ out.old.items ++ services_in scope.now services.now) }
 {
     for service in services {
         out.push(Declaration {
-            name: name_in(alloc, scope, service.name.as_str())?,
+            name: names.within(scope, service.name.as_str())?,
             declared: Declared::Service,
         })?;
     }
@@ -176,33 +157,35 @@ fn put_services<'a>(
 
 /// Appends what a file declares.
 fn put_file<'a>(
-    alloc: Global,
+    names: &'a Names,
     out: &mut Vec<Declaration<'a>>,
     file: &'a FileInfo,
 ) -> Result<(), NoMemory>
     ensures { OnOk result (out.new.items ≡ out.old.items ++ file_declarations file.now) }
 {
     out.push(Declaration {
-        name: Text::copy_of(alloc, file.name.as_str())?,
+        name: names.plain(file.name.as_str())?,
         declared: Declared::File,
     })?;
-    let package = file.package.as_str();
-    put_messages(alloc, out, file, package, file.message_type.as_slice())?;
-    put_enums(alloc, out, package, file.enum_type.as_slice())?;
-    put_services(alloc, out, package, file.service.as_slice())?;
-    put_extensions(alloc, out, file.extension.as_slice())
+    let package = names.plain(file.package.as_str())?;
+    put_messages(names, out, file, file.message_type.as_slice(), package)?;
+    put_enums(names, out, package, file.enum_type.as_slice())?;
+    put_services(names, out, package, file.service.as_slice())?;
+    put_extensions(names, out, file.extension.as_slice())
 }
 
-/// All that a set declares, file by file.
+/// All that a set declares, file by file. The names stand in `names`; none is written out, so that
+/// the memory is linear in the number of declarations, whatever their names are.
 pub fn declarations_of<'a>(
     alloc: Global,
+    names: &'a Names,
     set: &'a FileSet,
 ) -> Result<Vec<Declaration<'a>>, NoMemory>
     ensures { IfOk result (λ ds. ds.items ≡ declarations set.now) }
 {
     let mut declarations = Vec::new(alloc);
     for file in set.files.as_slice() {
-        put_file(alloc, &mut declarations, file)?;
+        put_file(names, &mut declarations, file)?;
     }
     Ok(declarations)
 }

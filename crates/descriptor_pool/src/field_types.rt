@@ -28,7 +28,7 @@ pub fn field_numbered(fields: &[FieldInfo], number: i32) -> Option<&FieldInfo>
 
 impl<'a> SetTypes<'a> {
     /// The index of the message that a field's type names, where that type is a message.
-    pub fn field_message(&self, field: &FieldInfo) -> Option<usize>
+    pub fn field_message(&self, field: &'a FieldInfo) -> Option<usize>
         ensures { result ≡ field_message self.now field.now }
     {
         if field.type_number == TYPE_MESSAGE {
@@ -38,7 +38,7 @@ impl<'a> SetTypes<'a> {
     }
 
     /// The index of the enum that a field's type names, where that type is an enum.
-    pub fn field_enum(&self, field: &FieldInfo) -> Option<usize>
+    pub fn field_enum(&self, field: &'a FieldInfo) -> Option<usize>
         ensures { result ≡ field_enum self.now field.now }
     {
         if field.type_number == TYPE_ENUM {
@@ -48,7 +48,7 @@ impl<'a> SetTypes<'a> {
     }
 
     /// The message that a field's type names, where that type is a message.
-    fn message_of_field(&self, field: &FieldInfo) -> Option<&DeclaredMessage<'a>>
+    fn message_of_field(&self, field: &'a FieldInfo) -> Option<&DeclaredMessage<'a>>
         ensures { option_copied result ≡ message_of_field self.now field.now }
     {
         match self.field_message(field) {
@@ -59,7 +59,7 @@ impl<'a> SetTypes<'a> {
 
     /// The entry of a map: a map is a repeated field whose type is a message with the option
     /// map_entry.
-    pub fn map_entry(&self, field: &FieldInfo) -> Option<&DeclaredMessage<'a>>
+    pub fn map_entry(&self, field: &'a FieldInfo) -> Option<&DeclaredMessage<'a>>
         ensures { option_copied result ≡ map_entry self.now field.now }
     {
         if !is_repeated(field) {
@@ -78,7 +78,7 @@ impl<'a> SetTypes<'a> {
 
     /// The field whose type one value of a field has: of a map its entry's second, else the field
     /// itself.
-    pub fn value_field<'b>(&'b self, field: &'b FieldInfo) -> &'b FieldInfo
+    pub fn value_field(&self, field: &'a FieldInfo) -> &'a FieldInfo
         ensures { result.now ≡ value_field self.now field.now }
     {
         match self.map_entry(field) {

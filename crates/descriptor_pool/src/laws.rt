@@ -5,6 +5,7 @@ ghost use Rattle.std.specs.List.{flat_map};
 ghost use Rattle.descriptor_pool.specs.DeclaredTypes.{SetTypes};
 ghost use Rattle.descriptor_pool.specs.ReachableTypes.{Joined, once, queue, reachable, message_enums, reached_enums, with_index};
 ghost use Rattle.descriptor_pool.specs.ReachedClosure.{IsReachClosed};
+ghost use Rattle.descriptor_pool.specs.ReachedReasons.{HasReasons};
 ghost use Rattle.descriptor_pool.specs.SetMethods.{BoundMethod};
 
 /// The messages that are reached are all those of their own queue, each once, and the enums all that
@@ -18,4 +19,10 @@ pub fn what_is_reached_is_whole()
 /// reached name are reached too, and of the set, and each is reached once.
 pub fn what_is_reached_is_closed()
     ensures { (types : SetTypes) (ms : List BoundMethod) → IsReachClosed types ms }
+{}
+
+/// Nothing else is reached: each message is the input or the output of a method, or is named by a
+/// field of a message that is reached before it, and it has the path of that method or message.
+pub fn messages_named()
+    ensures { (types : SetTypes) (ms : List BoundMethod) → HasReasons types ms }
 {}

@@ -3,8 +3,8 @@ ghost use Rattle.std.specs.Prelude.{◌≡◌, ◌++◌, map, IfOk, OnOk};
 ghost use Rattle.descriptors.specs.declared.file_set.HttpInfo.{out-HttpInfo};
 ghost use Rattle.descriptor_pool.specs.SetMethods.{all_rules, bound_methods, file_methods, grpc_path, http_method, pattern_method, rule_methods, service_methods, with_rule};
 
-use crate::declared_names::put_name;
-use base::{NoMemory, Text};
+use crate::method_path::MethodPath;
+use base::NoMemory;
 use descriptors::{FileInfo, FileSet, HttpInfo, PatternInfo, RpcInfo, ServiceInfo};
 use std::alloc::Global;
 use std::marker::Model;
@@ -13,7 +13,7 @@ use std::marker::Model;
 #[derive(Drop)]
 pub struct BoundMethod<'a> {
     /// Its gRPC path: a slash, the service's full name, a slash and the method's name.
-    pub path: Text,
+    pub path: MethodPath<'a>,
     /// Its declaration.
     pub rpc: &'a RpcInfo,
     /// Its annotation.
@@ -32,31 +32,18 @@ impl<'a> Model for BoundMethod<'a> {
     ghost view = { λ m. record { path = m.path; input = m.rpc.now.input_type; output = m.rpc.now.output_type; rule = m.rule.now; client_streams = m.rpc.now.client_streaming; server_streams = m.rpc.now.server_streaming } };
 }
 
-/// The gRPC path of a method (gRPC's PROTOCOL-HTTP2, Path).
-fn path_of(alloc: Global, scope: &str, service: &str, method: &str) -> Result<Text, NoMemory>
-    ensures { IfOk result (λ path. path ≡ grpc_path scope.now service.now method.now) }
-{
-    let mut path = String::new(alloc);
-    path.push_str("/")?;
-    put_name(&mut path, scope, service)?;
-    path.push_str("/")?;
-    path.push_str(method)?;
-    Ok(Text::from_string(path))
-}
-
 /// Appends a method, where it has an annotation.
 fn put_method<'a>(
-    alloc: Global,
     out: &mut Vec<BoundMethod<'a>>,
-    scope: &str,
-    service: &str,
+    scope: &'a str,
+    service: &'a str,
     rpc: &'a RpcInfo,
 ) -> Result<(), NoMemory>
     ensures { OnOk result (out.new.items ≡ out.old.items ++ with_rule (grpc_path scope.now service.now rpc.now.name) rpc.now rpc.now.http) }
 {
     match &rpc.http {
         Some(rule) => {
-            let path = path_of(alloc, scope, service, rpc.name.as_str())?;
+            let path = MethodPath::of(scope, service, rpc.name.as_str());
             out.push(BoundMethod { path, rpc, rule })?;
             Ok(())
         }
@@ -66,29 +53,24 @@ fn put_method<'a>(
 
 /// Appends the methods of a service that have an annotation.
 fn put_service<'a>(
-    alloc: Global,
     out: &mut Vec<BoundMethod<'a>>,
-    scope: &str,
+    scope: &'a str,
     service: &'a ServiceInfo,
 ) -> Result<(), NoMemory>
     ensures { OnOk result (out.new.items ≡ out.old.items ++ service_methods scope.now service.now) }
 {
     for rpc in service.method.as_slice() {
-        put_method(alloc, out, scope, service.name.as_str(), rpc)?;
+        put_method(out, scope, service.name.as_str(), rpc)?;
     }
     Ok(())
 }
 
 /// Appends the methods of a file that have an annotation.
-fn put_file<'a>(
-    alloc: Global,
-    out: &mut Vec<BoundMethod<'a>>,
-    file: &'a FileInfo,
-) -> Result<(), NoMemory>
+fn put_file<'a>(out: &mut Vec<BoundMethod<'a>>, file: &'a FileInfo) -> Result<(), NoMemory>
     ensures { OnOk result (out.new.items ≡ out.old.items ++ file_methods file.now) }
 {
     for service in file.service.as_slice() {
-        put_service(alloc, out, file.package.as_str(), service)?;
+        put_service(out, file.package.as_str(), service)?;
     }
     Ok(())
 }
@@ -99,7 +81,7 @@ pub fn bound_methods<'a>(alloc: Global, set: &'a FileSet) -> Result<Vec<BoundMet
 {
     let mut methods = Vec::new(alloc);
     for file in set.files.as_slice() {
-        put_file(alloc, &mut methods, file)?;
+        put_file(&mut methods, file)?;
     }
     Ok(methods)
 }
@@ -130,7 +112,7 @@ pub fn rules_of<'a>(
 }
 
 /// The HTTP method of a pattern.
-pub(crate) fn http_method(pattern: &PatternInfo) -> &str
+pub fn http_method(pattern: &PatternInfo) -> &str
     ensures { result.now ≡ http_method pattern.now }
 {
     match pattern {

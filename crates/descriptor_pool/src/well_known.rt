@@ -4,48 +4,49 @@ ghost use Rattle.std.specs.List.{list_any};
 ghost use Rattle.descriptor_pool.specs.WellKnownTypes.{are_published, are_seconds_and_nanos, has_repetition, is_published, is_value, known_of, wrapped_type};
 
 use crate::field_types::is_repeated;
+use crate::full_name::FullName;
 use descriptors::FieldInfo;
 use message_types::Known;
 
 /// The type number of what a wrapper wraps, by the wrapper's full name.
-pub(crate) fn wrapped_type(name: &str) -> Option<u32>
+pub(crate) fn wrapped_type(name: &FullName<'_>) -> Option<u32>
     ensures { result ≡ wrapped_type name.now }
 {
-    if name == "google.protobuf.BoolValue" {
+    if name.is("google.protobuf.BoolValue") {
         return Some(8);
     }
-    if name == "google.protobuf.Int32Value" {
+    if name.is("google.protobuf.Int32Value") {
         return Some(5);
     }
-    if name == "google.protobuf.Int64Value" {
+    if name.is("google.protobuf.Int64Value") {
         return Some(3);
     }
-    if name == "google.protobuf.UInt32Value" {
+    if name.is("google.protobuf.UInt32Value") {
         return Some(13);
     }
-    if name == "google.protobuf.UInt64Value" {
+    if name.is("google.protobuf.UInt64Value") {
         return Some(4);
     }
-    if name == "google.protobuf.StringValue" {
+    if name.is("google.protobuf.StringValue") {
         return Some(9);
     }
-    if name == "google.protobuf.BytesValue" {
+    if name.is("google.protobuf.BytesValue") {
         return Some(12);
     }
     None
 }
 
 /// Which well-known type has a full name.
-pub fn known_of(name: &str) -> Known
+pub fn known_of(name: &FullName<'_>) -> Known
     ensures { result ≡ known_of name.now }
 {
-    if name == "google.protobuf.Timestamp" {
+    if name.is("google.protobuf.Timestamp") {
         return Known::Timestamp;
     }
-    if name == "google.protobuf.Duration" {
+    if name.is("google.protobuf.Duration") {
         return Known::Duration;
     }
-    if name == "google.protobuf.FieldMask" {
+    if name.is("google.protobuf.FieldMask") {
         return Known::FieldMask;
     }
     if wrapped_type(name).is_some() {
@@ -123,7 +124,7 @@ fn is_value(type_number: Option<u32>, fields: &[FieldInfo]) -> bool
 }
 
 /// True where a message of a well-known type's name has exactly that type's fields.
-pub fn are_published(name: &str, fields: &[FieldInfo]) -> bool
+pub fn are_published(name: &FullName<'_>, fields: &[FieldInfo]) -> bool
     ensures { result ≡ are_published name.now fields.now }
 {
     match known_of(name) {

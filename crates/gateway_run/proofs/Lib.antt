@@ -1,8 +1,9 @@
--- The laws: a set serves one thing and has one fault, a request has one answer.
+-- The laws: a set declares one API and has one fault, a command has one answer, and a linked API one text of routes.
 pub mod AnswerLemmas
 pub mod RouteLemmas
+pub mod ListingLemmas
 -- What a command says of a file of whose bytes it read the front.
-pub mod BindLemmas
+pub mod OutputLemmas
 pub mod FrontLemmas
 -- The lines on standard error.
 pub mod LineLemmas

@@ -2,7 +2,7 @@
 use Rattle.std.proofs.Common.{◌≡◌, ◌≤◌, ◌+◌, ◌==◌, ◌++◌, ℕ, false, List, [], ◌∷◌, length, take, Option, Some, None, sym, ap, ◌∙◌, subst, arith, append-nil, append_assoc, length-append, Bor, Result, Ok, Err, OnErr}
 use Rattle.std.specs.List.{flat_map}
 use Rattle.std.specs.Prelude.{codes, decimal}
-use Rattle.gateway_run.specs.DescriptorLines.{descriptor_line, is_not_built}
+use Rattle.gateway_run.specs.DescriptorLines.{descriptor_line}
 use Rattle.gateway_run.specs.declared.descriptor_fault.DescriptorFault.TheVariants.{NotUtf8, Unlinked, Wire}
 use Rattle.set_faults.specs.LinkFaults.{kind_text}
 use Rattle.set_faults.specs.declared.fault.LinkKind.{LinkKind}
@@ -61,11 +61,11 @@ wire_line w digits kind d k =
     rw (d, k) (ap (λ z. codes "descriptors: Wire at " ++ z) (append_assoc (decimal w.place) (codes " " ++ wire_kind_name w.kind) (codes "\n")))
 
 -- the line of a fault with two names, by the texts that are written
-pub two_names_line : (kind : LinkKind) (name second : List ℕ) (k n s : List ℕ) → is_not_built kind ≡ false → (length second == 0) ≡ false → k ≡ kind_text kind → n ≡ name → s ≡ second
+pub two_names_line : (kind : LinkKind) (name second : List ℕ) (k n s : List ℕ) → (length second == 0) ≡ false → k ≡ kind_text kind → n ≡ name → s ≡ second
     → descriptor_line (Unlinked kind name second) ≡ codes "descriptors: " ++ (k ++ (codes " " ++ (n ++ (codes " " ++ (s ++ codes "\n")))))
-two_names_line kind name [] k n s b c ek en es = absurd (cc (c))
-two_names_line kind name (d ∷ ds) k n s b c ek en es =
-    rw (b, ek, en, es)
+two_names_line kind name [] k n s c ek en es = absurd (cc (c))
+two_names_line kind name (d ∷ ds) k n s c ek en es =
+    rw (ek, en, es)
     (ap (λ z. codes "descriptors: " ++ z) (append_assoc (kind_text kind) (codes " " ++ (name ++ (codes " " ++ (d ∷ ds)))) (codes "\n")
     ∙ ap (λ z. kind_text kind ++ (codes " " ++ z)) (append_assoc name (codes " " ++ (d ∷ ds)) (codes "\n"))))
 

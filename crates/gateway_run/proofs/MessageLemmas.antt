@@ -4,7 +4,7 @@ use Rattle.std.proofs.lemmas.Bool.Decides.{nat_tests}
 use Rattle.std.specs.List.{AllByRecursion, IsDistinct, filter_map}
 use Rattle.std.specs.Str.{IsUtf8}
 use Rattle.gateway_run.specs.BoundMessage.{text_slots}
-use Rattle.gateway_run.specs.OneRoute.{OneRoute, SetsString}
+use Rattle.gateway_run.specs.OneRoute.{IsSingleString, OneRoute, SetsString}
 use Rattle.message_types.specs.Types.{field_of}
 use Rattle.schema.specs.Validity.{Inner, IsItem, IsStored, IsSlot, IsFieldSlot, IsValid, oneof_of, valid_within, is_default}
 use Rattle.schema.specs.Value.{RiseFrom, slots_of}
@@ -22,7 +22,6 @@ use Rattle.schema.specs.declared.value.Item.{Text}
 use Rattle.schema.specs.declared.value.Slot.TheVariants.{outs-One}
 use Rattle.schema.specs.declared.value.Slot.{out-Slot, One, Slot}
 use Rattle.schema.specs.declared.value.Value.{Value}
-use Rattle.schema_link.specs.SetApi.{IsSingleString}
 
 not_empty : (b : ℕ) (bs : List ℕ) → is_default (opened.Text (b ∷ bs)) ≡ false
 not_empty b bs = grind (arith, nat_tests)

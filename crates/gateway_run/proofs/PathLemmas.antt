@@ -4,7 +4,7 @@ use Rattle.std.proofs.Math.Seq.{drop-append-add}
 use Rattle.std.proofs.lemmas.List.{append-nil, take_more}
 use Rattle.std.specs.List.{AllByRecursion}
 use Rattle.gateway_run.specs.PathPieces.{HasNoSlash, IsPieceEnd, BeginsWithPiece, TakesPiece, EachTakesPiece, TakeAll, piece_span}
-use Rattle.schema_link.specs.ServedTemplates.{is_one_segment, IsTemplateOf}
+use Rattle.gateway_run.specs.OneRoute.{IsSimpleTemplate, is_one_segment}
 use Rattle.http_rules.specs.PercentDecoding.{variable_segments}
 use Rattle.http_rules.specs.Template.{IsLiteral, IsSegment, verb_text}
 use Rattle.http_rules.specs.TemplateMatch.{AreSpansOf, IsPath, slashed, EachTakes, shares, span_between, span_of, Matches, Fits}
@@ -221,21 +221,21 @@ none_some None e h = absurd (cc (h))
 none_some (Some x) e h = absurd (cc (e))
 
 -- what fits is taken whole
-pub fits_all : HaveNoSlash → (text : List ℕ) (t : Template) (name path : List ℕ) → IsTemplateOf text t name → AllByRecursion IsSegment t.segments → Fits t path → TakeAll t.segments path
-fits_all law text t name path h lawful f =
+pub fits_all : HaveNoSlash → (t : Template) (path : List ℕ) → IsSimpleTemplate t → AllByRecursion IsSegment t.segments → Fits t path → TakeAll t.segments path
+fits_all law t path h lawful f =
     let m = f.1 in
-    (shares m.taken, plain_taken law t.segments m.taken h.plain.segments lawful m.each, m.written ∙ bare_verb t (slashed (shares m.taken)) h.plain.verb)
+    (shares m.taken, plain_taken law t.segments m.taken h.segments lawful m.each, m.written ∙ bare_verb t (slashed (shares m.taken)) h.verb)
 
 -- what is taken whole matches, and the variable's span is that of its piece
-pub all_match : (text : List ℕ) (t : Template) (name path : List ℕ) (h : IsTemplateOf text t name) → IsPath path → (a : TakeAll t.segments path) → Matches t path (piece_span a.0 h.variable.from ∷ [])
-all_match text t name path h is a =
+pub all_match : (t : Template) (path : List ℕ) (h : IsSimpleTemplate t) → IsPath path → (a : TakeAll t.segments path) → Matches t path (piece_span a.0 h.variable.from ∷ [])
+all_match t path h is a =
     let ps = a.0 in
     record {
       is_path = is;
       taken = each_one ps;
       each = pieces_taken t.segments ps a.1;
-      before_verb = λ v. absurd (none_some t.verb h.plain.verb v);
-      written = a.2 ∙ ap slashed (sym (shares_one ps)) ∙ sym (bare_verb t (slashed (shares (each_one ps))) h.plain.verb);
+      before_verb = λ v. absurd (none_some t.verb h.verb v);
+      written = a.2 ∙ ap slashed (sym (shares_one ps)) ∙ sym (bare_verb t (slashed (shares (each_one ps))) h.verb);
       spans_are = ap (λ z. z ∷ []) (sym (span_is t.segments ps h.variable a.1 h.takes)) ∙ ap (map (span_of (each_one ps))) (sym h.one);
     }
 
@@ -247,13 +247,13 @@ no_slashes (s ∷ ss) (p ∷ ps) h = (h.0.1, no_slashes ss ps h.1)
 
 -- the span of the variable's piece is that of the match, and lies in the path
 pub matched : (law : (t : Template) (path : List ℕ) (spans : List (ℕ × ℕ)) → Matches t path spans → AreSpansOf t path spans)
-    → (text : List ℕ) (t : Template) (name path : List ℕ) (h : IsTemplateOf text t name) → IsPath path → TakeAll t.segments path → (index : ℕ) → index ≡ h.variable.from → (span : ℕ × ℕ)
+    → (t : Template) (path : List ℕ) (h : IsSimpleTemplate t) → IsPath path → TakeAll t.segments path → (index : ℕ) → index ≡ h.variable.from → (span : ℕ × ℕ)
     → ((pieces : List (List ℕ)) → AllByRecursion HasNoSlash pieces → path ≡ slashed pieces → index < length pieces → span ≡ piece_span pieces index)
     → Matches t path (span ∷ []) × (span.0 ≤ span.1) × (span.1 ≤ length path)
-matched law text t name path h is a index there span at =
+matched law t path h is a index there span at =
     let ps = a.0 in
     let own = wildcard_piece (h.variable.to - h.variable.from) h.variable.from t.segments ps a.1 h.takes in
     let e : span ≡ piece_span ps h.variable.from = at ps (no_slashes t.segments ps a.1) a.2 (omega (arith, there, own.1)) ∙ ap (piece_span ps) there in
-    let m = subst (λ z. Matches t path (z ∷ [])) (sym e) (all_match text t name path h is a) in
+    let m = subst (λ z. Matches t path (z ∷ [])) (sym e) (all_match t path h is a) in
     let inside = (law t path (span ∷ []) m).inside.0 in
     (m, inside.0, inside.1)

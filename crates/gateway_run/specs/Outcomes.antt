@@ -2,12 +2,11 @@
 use Rattle.std.specs.Prelude.{◌≡◌, ℕ, List, [], codes, Option, Some, None, IfSome, Result, Ok, Err}
 use Rattle.gate_world.specs.Sinks.{Gains, GainsPart, GainsPrefix}
 use Rattle.gate_world.specs.ToldFiles.{FileMap, IsMissing, told_file}
-use Rattle.gateway_run.specs.Commands.{BindWords}
-use Rattle.gateway_run.specs.OneRoute.{OneRoute}
+use Rattle.gateway_run.specs.CommandOutput.{IsOutput, IsRefusedBy}
+use Rattle.gateway_run.specs.Commands.{Command, set_of}
+use Rattle.gateway_run.specs.DeclaredApi.{IsUnserved}
 use Rattle.gateway_run.specs.RefusalLines.{refusal_line}
-use Rattle.gateway_run.specs.RequestMeaning.{IsPrinted, IsRefusal}
 use Rattle.gateway_run.specs.DescriptorLines.{descriptor_line}
-use Rattle.gateway_run.specs.ServedSet.{IsUnserved, Serves}
 use Rattle.gateway_run.specs.declared.descriptor_fault.DescriptorFault.{DescriptorFault}
 use Rattle.gateway_run.specs.declared.descriptor_fault.DescriptorFault.TheVariants as faults
 use Rattle.gateway_run.specs.declared.refusal.RequestRefusal.{RequestRefusal}
@@ -19,18 +18,6 @@ use Rattle.gateway_run.specs.declared.status.Status.{Status}
 use Rattle.gateway_run.specs.declared.status.Status.TheVariants as status
 use Rattle.gateway_run.specs.declared.status.Stop.{Stop}
 use Rattle.gateway_run.specs.declared.status.Stop.TheVariants as stop
-
--- what a command prints over a set's file
-pub record IsOutput (file : List ℕ) (c : BindWords) (out : List ℕ) : Type 0 where
-  pub route : OneRoute
-  pub serves : Serves file route
-  pub printed : IsPrinted route c.method c.target out
-
--- its request is refused
-pub record IsRefusedBy (file : List ℕ) (c : BindWords) (r : RequestRefusal) : Type 0 where
-  pub route : OneRoute
-  pub serves : Serves file route
-  pub refused : IsRefusal route c.method c.target r
 
 -- the line of a status: that of a fault of the set or of a refusal where there is one, none with Done
 abbrev pub IsLine : Status → List ℕ → Type 0
@@ -82,10 +69,10 @@ stop_line stop.WriteFault = codes "write fault\n"
 stop_line stop.NoMemory = codes "out of memory\n"
 stop_line (stop.Refused r) = refusal_line r
 
--- what a status says of the set's file and the request: with Done the output was written whole, with
--- WriteFault a prefix of it that is not all; Descriptors where nothing is served, and the line is that of the
--- fault; Refused where the request is, and the line is that of the refusal
-abbrev pub Answers : List ℕ → BindWords → Status → List ℕ → Option (List ℕ) → Option (List ℕ) → Type 0
+-- what a status says of the set's file and the command: with Done the output was written whole, with
+-- WriteFault a prefix of it that is not all; Descriptors where the set has a fault, and the line is that of the
+-- fault; Refused where the command's request is, and the line is that of the refusal
+abbrev pub Answers : List ℕ → Command → Status → List ℕ → Option (List ℕ) → Option (List ℕ) → Type 0
 Answers file c status.Done line old new = (bytes : List ℕ) × IsOutput file c bytes × Gains old new bytes
 Answers file c status.Usage line old new = ⊥
 Answers file c status.Descriptors line old new = (f : DescriptorFault) × IsUnserved file f × (line ≡ descriptor_line f)
@@ -95,10 +82,10 @@ Answers file c status.NoMemory line old new = Unit {0}
 Answers file c status.Refused line old new = (r : RequestRefusal) × IsRefusedBy file c r × (line ≡ refusal_line r)
 
 -- the answer to a command where the set's file is told: that of its bytes, and ReadFault where it is missing
-abbrev pub AnswersTold : Option BindWords → Option FileMap → Status → List ℕ → Option (List ℕ) → Option (List ℕ) → Type 0
+abbrev pub AnswersTold : Option Command → Option FileMap → Status → List ℕ → Option (List ℕ) → Option (List ℕ) → Type 0
 AnswersTold None files s line old new = Unit {0}
 AnswersTold (Some c) files s line old new =
-    IfSome (told_file files c.set) (λ file. Answers file c s line old new) × (IsMissing files c.set → s ≡ status.ReadFault)
+    IfSome (told_file files (set_of c)) (λ file. Answers file c s line old new) × (IsMissing files (set_of c) → s ≡ status.ReadFault)
 
 -- a run that ended so: its line stands on `err`, where its count of faults did not rise, and the status
 -- answers the command

@@ -6,7 +6,7 @@ use Rattle.gate_world.specs.declared.refusal.Detail.{Detail}
 use Rattle.gateway_run.specs.declared.refusal.RequestRefusal.{RequestRefusal}
 use Rattle.gateway_run.specs.declared.refusal.RequestRefusal.TheVariants.{NotBuilt, Listed}
 
--- the HTTP status: that of the table, and 501 for a form that is not served yet
+-- the HTTP status: that of the table, and 501 for a form that is not built yet
 abbrev pub refusal_status : RequestRefusal → ℕ
 refusal_status NotBuilt = 501
 refusal_status (Listed r) = (row_of r).http_status

@@ -16,9 +16,9 @@ use Rattle.schema.specs.Value.{slots_of}
 use Rattle.schema.specs.declared.value.Value.{Value}
 use Rattle.wire_format.specs.CanonicalBytes.{canonical_bytes}
 
--- a request that is served so far: GET, and a path of at most 16,384 bytes without a query
-abbrev pub is_served : List ℕ → List ℕ → Bool
-is_served method target =
+-- a request of the simple form: GET, and a path of at most 16,384 bytes without a query
+abbrev pub is_simple_request : List ℕ → List ℕ → Bool
+is_simple_request method target =
     bytes_eq method (codes "GET")
     && (nat_le (length target) 16384 && (starts_with nat_eq target (47 ∷ []) && not (list_any (λ b. nat_eq b 63) target)))
 
@@ -40,7 +40,7 @@ pub record IsMessageOf (route : OneRoute) (text message : List ℕ) : Type 0 whe
 
 -- the message that a request means, of at most 1,048,576 bytes
 pub record IsBound (route : OneRoute) (method target message : List ℕ) : Type 0 where
-  pub served : is_served method target ≡ true
+  pub simple : is_simple_request method target ≡ true
   pub text : List ℕ
   pub captures : Captures route target text
   pub utf8 : IsUtf8 text
@@ -64,10 +64,10 @@ pub record IsLong (route : OneRoute) (target : List ℕ) : Type 0 where
 
 -- why a request is refused; for no other cause so far
 abbrev pub IsRefusal : OneRoute → List ℕ → List ℕ → RequestRefusal → Type 0
-IsRefusal route method target NotBuilt = is_served method target ≡ false
-IsRefusal route method target (Listed PathUnknown) = (is_served method target ≡ true) × (Fits route.template target → ⊥)
-IsRefusal route method target (Listed (PathValue n NotUtf8)) = (n ≡ 1) × (is_served method target ≡ true) × IsNotUtf8 route target
-IsRefusal route method target (Listed MessageTooLong) = (is_served method target ≡ true) × IsLong route target
+IsRefusal route method target NotBuilt = is_simple_request method target ≡ false
+IsRefusal route method target (Listed PathUnknown) = (is_simple_request method target ≡ true) × (Fits route.template target → ⊥)
+IsRefusal route method target (Listed (PathValue n NotUtf8)) = (n ≡ 1) × (is_simple_request method target ≡ true) × IsNotUtf8 route target
+IsRefusal route method target (Listed MessageTooLong) = (is_simple_request method target ≡ true) × IsLong route target
 IsRefusal route method target _ = ⊥
 
 -- what `bind` prints: the path, and the length-prefixed message in lower-case hexadecimal

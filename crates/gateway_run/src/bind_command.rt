@@ -1,35 +1,23 @@
-//! The command `bind SET METHOD TARGET`.
-ghost use Rattle.std.specs.Prelude.{◌≡◌, ◌≤◌, ◌<◌, ◌^◌, ◌++◌, length, Some, Err, IfOk, IfSome, OnOk};
-ghost use Rattle.gate_world.specs.Causes.{Rose};
-ghost use Rattle.gate_world.specs.ToldFiles.{IsMissing, told_file};
+//! The command `bind SET METHOD TARGET`: the gRPC path and the framed message that a request means.
+ghost use Rattle.std.specs.Prelude.{◌≡◌, ◌<◌, ◌^◌, ◌++◌, length, IfOk, OnOk};
+ghost use Rattle.gateway_run.specs.CommandOutput.{IsBindOutput, IsBindRefusal};
 ghost use Rattle.gateway_run.specs.CommandViews.{bind_view};
-ghost use Rattle.gateway_run.specs.OneRoute.{HasRoute, OneRoute, SetsString, one_route};
-ghost use Rattle.gateway_run.specs.Outcomes.{Gives, IsOutput, IsRefusedBy};
+ghost use Rattle.gateway_run.specs.OneRoute.{SetsString, simple_route};
+ghost use Rattle.gateway_run.specs.Outcomes.{Gives};
 ghost use Rattle.gateway_run.specs.RequestMeaning.{IsPrinted, IsRefusal, output};
-ghost use Rattle.gateway_run.specs.ServedSet.{Declares, IsUnserved};
-ghost use Rattle.gateway_run.specs.ServedView.{served_view};
+ghost use Rattle.gateway_run.specs.RouteView.{route_view};
 ghost use Rattle.hex.specs.Hex.{encode_lower};
+ghost use Rattle.linked_api.specs.LinkedApi.{IsLinked};
 
 use crate::binding::bind;
 use crate::command::Bind;
-use crate::served::{Served, one_route};
-use crate::set_loading::read_whole;
+use crate::one_route::{Route, simple_route};
+use crate::refusal::RequestRefusal;
 use crate::status::Stop;
 use base::NoMemory;
-use descriptor_set::read_set;
-use gate_world::Files;
 use grpc_frames::frame;
-use schema_link::{Api, link};
+use linked_api::Api;
 use std::alloc::Global;
-
-/// What the set of these bytes serves.
-fn linked(alloc: Global, bytes: &[u8]) -> Result<Api, Stop>
-    ensures gives { Gives (λ api. Declares bytes.now api × HasRoute api) (IsUnserved bytes.now) (λ _. ⊥) ⊥ result }
-{
-    let set = read_set(alloc, bytes)?;
-    let api = link(alloc, &set)?;
-    Ok(api)
-}
 
 /// Appends bytes in lower-case hexadecimal.
 fn put_hex(alloc: Global, out: &mut Vec<u8>, bytes: &[u8]) -> Result<(), NoMemory>
@@ -56,55 +44,34 @@ fn lines(alloc: Global, path: &[u8], message: &[u8]) -> Result<Vec<u8>, NoMemory
     Ok(out)
 }
 
-/// What the command writes, for a route.
+/// What the command prints, for a route.
 fn route_output(
     alloc: Global,
-    served: &Served<'_>,
+    route: &Route<'_>,
     method: &[u8],
     target: &[u8],
 ) -> Result<Vec<u8>, Stop>
-    requires { SetsString (served_view served.now) }
-    ensures { Gives (λ out. IsPrinted (served_view served.now) method.now target.now out.items) (λ _. ⊥) (IsRefusal (served_view served.now) method.now target.now) ⊥ result }
+    requires { SetsString (route_view route.now) }
+    ensures { Gives (λ out. IsPrinted (route_view route.now) method.now target.now out.items) (λ _. ⊥) (IsRefusal (route_view route.now) method.now target.now) ⊥ result }
 {
-    let message = bind(alloc, served, method, target)?;
-    let out = lines(alloc, served.path.as_str().as_bytes(), message.as_slice())?;
+    let message = bind(alloc, route, method, target)?;
+    let out = lines(alloc, route.path.as_str().as_bytes(), message.as_slice())?;
     Ok(out)
 }
 
-/// What the command writes, for what a set serves.
-fn bound_output(alloc: Global, api: &Api, method: &[u8], target: &[u8]) -> Result<Vec<u8>, Stop>
-    requires { HasRoute api.now }
-    ensures { (route : OneRoute) → one_route api.now ≡ Some route → Gives (λ out. IsPrinted route method.now target.now out.items) (λ _. ⊥) (IsRefusal route method.now target.now) ⊥ result }
+/// What the command prints of a linked set. Where the set has no route of the simple form, each request is refused as
+/// not built.
+pub(crate) fn bind_output(alloc: Global, api: &Api, words: Bind<'_>) -> Result<Vec<u8>, Stop>
+    requires { IsLinked api.now }
+    ensures { Gives (λ out. IsBindOutput (simple_route api.now) (bind_view words.entry) out.items) (λ _. ⊥) (IsBindRefusal (simple_route api.now) (bind_view words.entry)) ⊥ result }
 {
-    match one_route(api) {
-        Some(served) => route_output(alloc, &served, method, target),
-        None => unreachable!(),
-    }
-}
-
-/// What the command writes.
-pub(crate) fn bind_output<F: Files>(
-    alloc: Global,
-    words: Bind<'_>,
-    files: &mut F,
-) -> Result<Vec<u8>, Stop>
-    ensures gives { let told = told_file (F.contents files.old) words.entry.set.now in
-        let command = bind_view words.entry in
-        Gives (λ out. IfSome told (λ file. IsOutput file command out.items))
-        (λ f. IfSome told (λ file. IsUnserved file f)) (λ r. IfSome told (λ file. IsRefusedBy file command r))
-        (Rose (F.faults files.old) (F.faults files.new)) result }
-    ensures missing { IsMissing (F.contents files.old) words.entry.set.now → result ≡ Err Stop.ReadFault }
-    ensures later { F.faults files.old ≤ F.faults files.new }
-    ensures same { F.contents files.new ≡ F.contents files.old }
-{
-    let bytes = read_whole(alloc, files, words.set)?;
-    match linked(alloc, bytes.as_slice()) {
-        Ok(api) => bound_output(
+    match simple_route(api) {
+        Some(route) => route_output(
             alloc,
-            &api,
+            &route,
             words.method.as_bytes(),
             words.target.as_bytes(),
         ),
-        Err(stop) => Err(stop),
+        None => Err(Stop::Refused(RequestRefusal::NotBuilt)),
     }
 }

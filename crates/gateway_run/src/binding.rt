@@ -4,15 +4,15 @@ ghost use Rattle.std.specs.Str.{IsUtf8};
 ghost use Rattle.gateway_run.specs.BoundMessage.{text_slots};
 ghost use Rattle.gateway_run.specs.OneRoute.{SetsString};
 ghost use Rattle.gateway_run.specs.Outcomes.{Gives};
-ghost use Rattle.gateway_run.specs.RequestMeaning.{Captures, IsBound, IsMessageOf, IsRefusal, is_served};
-ghost use Rattle.gateway_run.specs.ServedView.{served_view};
+ghost use Rattle.gateway_run.specs.RequestMeaning.{Captures, IsBound, IsMessageOf, IsRefusal, is_simple_request};
+ghost use Rattle.gateway_run.specs.RouteView.{route_view};
 ghost use Rattle.http_rules.specs.PercentDecoding.{captured};
 ghost use Rattle.http_rules.specs.TemplateMatch.{AreSpansOf};
 ghost use Rattle.schema.specs.Value.{slots_of};
 
 use crate::matching::variable_span;
+use crate::one_route::Route;
 use crate::refusal::RequestRefusal;
-use crate::served::Served;
 use crate::status::Stop;
 use base::{NoMemory, Text};
 use gate_world::{Refusal, ValueFault};
@@ -22,15 +22,15 @@ use std::alloc::Global;
 use std::str;
 use wire_format::encode;
 
-/// The longest target that is served, in bytes: that of a whole request head.
+/// The longest target of the simple form, in bytes: that of a whole request head.
 const MAX_TARGET_BYTES: usize = 16_384;
 
 /// The longest message that is sent, in bytes.
 const MAX_MESSAGE_BYTES: usize = 1_048_576;
 
-/// True where the request is of a form that is served: GET, and a path without a query.
-fn is_served(method: &[u8], target: &[u8]) -> bool
-    ensures { result ≡ is_served method.now target.now }
+/// True where the request is of the simple form: GET, and a path without a query.
+fn is_simple_request(method: &[u8], target: &[u8]) -> bool
+    ensures { result ≡ is_simple_request method.now target.now }
 {
     method == b"GET".as_slice()
         && target.len() <= MAX_TARGET_BYTES
@@ -61,33 +61,33 @@ fn message_of(alloc: Global, number: u32, text: Text) -> Result<Value, NoMemory>
 }
 
 /// The canonical bytes of the message that has the text in the variable's field.
-fn encoded(alloc: Global, served: &Served<'_>, text: Text) -> Result<Vec<u8>, NoMemory>
-    requires { SetsString (served_view served.now) }
-    ensures { IfOk result (λ bytes. IsMessageOf (served_view served.now) text bytes.items) }
+fn encoded(alloc: Global, route: &Route<'_>, text: Text) -> Result<Vec<u8>, NoMemory>
+    requires { SetsString (route_view route.now) }
+    ensures { IfOk result (λ bytes. IsMessageOf (route_view route.now) text bytes.items) }
 {
     let _utf8 = text.as_str();
-    let value = message_of(alloc, served.number, text)?;
+    let value = message_of(alloc, route.number, text)?;
     let mut bytes = Vec::new(alloc);
-    encode(served.types, served.input, &value, &mut bytes)?;
+    encode(route.types, route.input, &value, &mut bytes)?;
     Ok(bytes)
 }
 
 /// The bytes of the message that has what the variable takes, decoded.
 fn message_bytes(
     alloc: Global,
-    served: &Served<'_>,
+    route: &Route<'_>,
     method: &[u8],
     target: &[u8],
     text: &[u8],
 ) -> Result<Vec<u8>, Stop>
-    requires linked { SetsString (served_view served.now) }
-    requires served { is_served method.now target.now ≡ true }
-    requires captures { Captures (served_view served.now) target.now text.now }
-    ensures { Gives (λ bytes. IsBound (served_view served.now) method.now target.now bytes.items) (λ _. ⊥) (IsRefusal (served_view served.now) method.now target.now) ⊥ result }
+    requires linked { SetsString (route_view route.now) }
+    requires simple { is_simple_request method.now target.now ≡ true }
+    requires captures { Captures (route_view route.now) target.now text.now }
+    ensures { Gives (λ bytes. IsBound (route_view route.now) method.now target.now bytes.items) (λ _. ⊥) (IsRefusal (route_view route.now) method.now target.now) ⊥ result }
 {
     match text_of(alloc, text)? {
         Some(text) => {
-            let bytes = encoded(alloc, served, text)?;
+            let bytes = encoded(alloc, route, text)?;
             if bytes.len() > MAX_MESSAGE_BYTES {
                 return Err(Stop::listed(Refusal::MessageTooLong));
             }
@@ -100,20 +100,20 @@ fn message_bytes(
 /// The bytes of the message that a request means.
 pub(crate) fn bind(
     alloc: Global,
-    served: &Served<'_>,
+    route: &Route<'_>,
     method: &[u8],
     target: &[u8],
 ) -> Result<Vec<u8>, Stop>
-    requires { SetsString (served_view served.now) }
-    ensures { Gives (λ bytes. IsBound (served_view served.now) method.now target.now bytes.items) (λ _. ⊥) (IsRefusal (served_view served.now) method.now target.now) ⊥ result }
+    requires { SetsString (route_view route.now) }
+    ensures { Gives (λ bytes. IsBound (route_view route.now) method.now target.now bytes.items) (λ _. ⊥) (IsRefusal (route_view route.now) method.now target.now) ⊥ result }
 {
-    if !is_served(method, target) {
+    if !is_simple_request(method, target) {
         return Err(Stop::Refused(RequestRefusal::NotBuilt));
     }
-    match variable_span(served.template, target) {
+    match variable_span(route.template, target) {
         Some((from, to)) => {
-            let text = capture(alloc, served.template, 0, &target[from..to])?;
-            message_bytes(alloc, served, method, target, text.as_slice())
+            let text = capture(alloc, route.template, 0, &target[from..to])?;
+            message_bytes(alloc, route, method, target, text.as_slice())
         }
         None => Err(Stop::listed(Refusal::PathUnknown)),
     }

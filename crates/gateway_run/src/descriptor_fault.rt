@@ -1,10 +1,10 @@
-//! Why a descriptor set is not served.
+//! Why a descriptor set is refused.
 
 use base::Text;
 use schema_link::LinkKind;
 use wire_records::WireFault;
 
-/// Why a descriptor set is not served. Out of memory is no such cause: it says nothing of the set.
+/// Why a descriptor set is refused. Out of memory is no such cause: it says nothing of the set.
 #[derive(Debug, Drop)]
 pub(crate) enum DescriptorFault {
     /// A record of the set, or of a listed message in it, is wrong.

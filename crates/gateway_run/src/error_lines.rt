@@ -3,7 +3,7 @@ ghost use Rattle.std.specs.List.{flat_map};
 ghost use Rattle.std.specs.Prelude.{◌≡◌, ◌≤◌, ◌++◌, codes, OnOk, OnErr};
 ghost use Rattle.gate_world.specs.Causes.{Rose};
 ghost use Rattle.gate_world.specs.Sinks.{Gains, GainsPart};
-ghost use Rattle.gateway_run.specs.DescriptorLines.{descriptor_line, is_not_built};
+ghost use Rattle.gateway_run.specs.DescriptorLines.{descriptor_line};
 ghost use Rattle.gateway_run.specs.Outcomes.{stop_line};
 ghost use Rattle.gateway_run.specs.RefusalLines.{refusal_line};
 
@@ -33,13 +33,6 @@ fn write_texts<O: Sink>(out: &mut O, texts: &[&str]) -> Result<(), WriteFailed>
     }
 }
 
-/// True where the set is of a form that is not linked yet.
-fn is_not_built(kind: LinkKind) -> bool
-    ensures { result ≡ is_not_built kind }
-{
-    matches!(kind, LinkKind::NotBuilt)
-}
-
 /// Writes why a descriptor set is not linked.
 fn write_link_line<'a, O: Sink>(
     err: &mut O,
@@ -52,9 +45,6 @@ fn write_link_line<'a, O: Sink>(
     ensures later { O.faults err.old ≤ O.faults err.new }
     ensures failed { OnErr result (Rose (O.faults err.old) (O.faults err.new)) }
 {
-    if is_not_built(kind) {
-        return write_all(err, "descriptors: not built\n".as_bytes());
-    }
     let kind: &'a str = kind.name();
     if second.is_empty() {
         let texts = ["descriptors: ", kind, " ", name.as_str(), "\n"];
@@ -99,7 +89,7 @@ fn write_utf8_line<O: Sink>(err: &mut O, place: u64) -> Result<(), WriteFailed>
     write_texts(err, &texts)
 }
 
-/// Writes why a descriptor set is not served.
+/// Writes why a descriptor set is refused.
 fn write_descriptor_line<O: Sink>(err: &mut O, fault: &DescriptorFault) -> Result<(), WriteFailed>
     ensures written { OnOk result (Gains (O.written err.old) (O.written err.new) (descriptor_line fault.now)) }
     ensures part { OnErr result (GainsPart (O.written err.old) (O.written err.new) (descriptor_line fault.now)) }

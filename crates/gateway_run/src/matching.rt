@@ -2,7 +2,8 @@
 ghost use Rattle.std.specs.Prelude.{◌≡◌, ◌≢◌, ◌≤◌, ◌<◌, ◌↔◌, ◌∷◌, ◌++◌, ◌+◌, [], ℕ, List, true, length, take, drop, IsTrue, MatchOption};
 ghost use Rattle.std.specs.List.{AllByRecursion};
 ghost use Rattle.gateway_run.specs.PathPieces.{HasNoSlash, IsPieceEnd, BeginsWithPiece, TakesPiece, TakeAll, piece_span};
-ghost use Rattle.gateway_run.specs.OneRoute.{IsSomeTemplateOf};
+ghost use Rattle.gateway_run.specs.OneRoute.{IsSimpleTemplate};
+ghost use Rattle.http_rules.specs.Template.{IsTemplate};
 ghost use Rattle.http_rules.specs.TemplateMatch.{Matches, Fits, IsPath, slashed};
 
 use http_rules::{Segment, Template, laws};
@@ -85,7 +86,8 @@ fn span_at(path: &[u8], index: u32) -> (usize, usize)
 
 /// From where to where the variable's value lies in a path that the template matches.
 pub(crate) fn variable_span(template: &Template, path: &[u8]) -> Option<(usize, usize)>
-    requires template { IsSomeTemplateOf template.now }
+    requires template { IsTemplate template.now }
+    requires simple { IsSimpleTemplate template.now }
     requires path { IsPath path.now }
     ensures { MatchOption result (Fits template.now path.now → ⊥) (λ span. Matches template.now path.now (span ∷ []) × (span.0 ≤ span.1) × (span.1 ≤ length path.now)) }
 {

@@ -5,8 +5,8 @@ ghost use Rattle.gate_world.specs.Sinks.{Gains};
 ghost use Rattle.gateway_run.specs.Commands.{command_of};
 ghost use Rattle.gateway_run.specs.Outcomes.{AnswersTold, Ran, Writes, line_of, status_of};
 
-use crate::bind_command::bind_output;
 use crate::command::command_of;
+use crate::command_output::command_output;
 use crate::error_lines::write_line;
 use crate::status::{Status, Stop};
 use gate_world::{Files, Policy, Sink, Source, write_all};
@@ -27,10 +27,10 @@ fn run_command<F: Files, O: Sink>(
     ensures later { (F.faults files.old ≤ F.faults files.new) × (O.faults out.old ≤ O.faults out.new) }
     ensures same { F.contents files.new ≡ F.contents files.old }
 {
-    let Some(bind) = command_of(words) else {
+    let Some(command) = command_of(words) else {
         return Err(Stop::Usage);
     };
-    let output = bind_output(alloc, bind, files)?;
+    let output = command_output(alloc, command, files)?;
     write_all(out, output.as_slice())?;
     Ok(())
 }
@@ -49,7 +49,7 @@ pub fn run_offline<F: Files, I: Source, O: Sink, P: Policy + Drop>(
 ) -> Status
     // Usage is exactly for words that are no command.
     ensures usage { (result ≡ Status.Usage) ↔ (command_of (map string_bytes words.now) ≡ None) }
-    // What the status says of the set and the request, what it wrote, and its line, where the contents are told;
+    // What the status says of the set and the command, what it wrote, and its line, where the contents are told;
     // where they are, and the set's path is none of theirs, it is ReadFault.
     ensures ran { Ran result (Rose (O.faults err.old) (O.faults err.new)) (O.written err.old) (O.written err.new)
         (λ line. AnswersTold (command_of (map string_bytes words.now)) (F.contents files.old) result line (O.written out.old) (O.written out.new)) }

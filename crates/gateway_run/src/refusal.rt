@@ -4,13 +4,13 @@ ghost use Rattle.gateway_run.specs.RefusalLines.{cause_of, refusal_detail, refus
 
 use gate_world::{Detail, Refusal};
 
-/// The HTTP status of a request of a form that is not served yet.
+/// The HTTP status of a request of a form that is not built yet.
 const NOT_BUILT_STATUS: u16 = 501;
 
 /// Why a request is refused.
 #[derive(Debug, Clone, Copy, PartialEq, Eq)]
 pub(crate) enum RequestRefusal {
-    /// The method or the target is of a form that is not served yet.
+    /// The set, the method or the target is of a form that is not built yet.
     NotBuilt,
     /// A cause of the table.
     Listed(Refusal),

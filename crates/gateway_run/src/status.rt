@@ -18,7 +18,7 @@ pub enum Status {
     Done,
     /// The words are no command.
     Usage,
-    /// The descriptor set cannot be served.
+    /// The descriptor set has a fault.
     Descriptors,
     /// A read failed.
     ReadFault,
@@ -52,7 +52,7 @@ impl Status {
 pub(crate) enum Stop {
     /// The words are no command.
     Usage,
-    /// The descriptor set cannot be served.
+    /// The descriptor set has a fault.
     Descriptors(DescriptorFault),
     /// A read failed.
     ReadFault,

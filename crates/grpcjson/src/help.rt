@@ -7,6 +7,8 @@ grpcjson: a gRPC-JSON transcoding gateway
 usage: grpcjson COMMAND WORD...
 
   bind SET METHOD TARGET   prints the gRPC path and the framed message that an HTTP request means
+  check SET                prints how many bindings the set has
+  routes SET               prints a line for each binding: HTTP method, template, gRPC path, body, response
   --help, -h               prints this text
   --version, -V            prints the version
 
@@ -27,7 +29,7 @@ pub(crate) fn help_of(words: &[String]) -> Option<&'static str> {
             _ => None,
         },
         [command, word] => match (command.as_str(), word.as_str()) {
-            ("bind", "--help" | "-h") => Some(HELP),
+            ("bind" | "check" | "routes", "--help" | "-h") => Some(HELP),
             _ => None,
         },
         _ => None,

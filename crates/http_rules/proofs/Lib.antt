@@ -8,6 +8,8 @@ pub mod MachineRuns
 pub mod PrefixLemmas
 pub mod BuildLemmas
 pub mod AnswerLemmas
+-- Each text has one reading (`parse_template`, `a_text_has_one_reading`).
+pub mod ReadingLemmas
 -- The ranges of variables (`ranges_are_in_order`, `variables_take_segments`).
 pub mod RangeLemmas
 -- What is printed means the same template (`put_template`, `printed_means_the_same`).
@@ -20,5 +22,9 @@ pub mod MatchLemmas
 pub mod DecodingLemmas
 -- Decoding but for slashes against decoding whole (`without_escaped_slashes`, `decodings_differ_at_slashes`).
 pub mod SlashLemmas
+-- The test of routes, and their texts (`same_route_is_tested`, `first_repeated_route`).
+pub mod RouteLemmas
+-- Bindings that repeat a route (`routes_apart_repeat_none`, `first_repeated_route`).
+pub mod RepeatLemmas
 -- Worked examples of the definitions.
 pub mod StandardFacts

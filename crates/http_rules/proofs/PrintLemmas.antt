@@ -99,7 +99,8 @@ segments_put old mid new (y ∷ ys) x h e m n =
     n ∙ ap (λ z. mid ++ slashed_segments z) (take_rest (y ∷ ys) 1) ∙ ap (λ z. z ++ slashed_segments ys) m ∙ append_assoc old (segment_text x) (slashed_segments ys)
     ∙ ap (λ z. old ++ (segment_text z ++ slashed_segments ys)) e ∙ ap (λ z. old ++ (segment_text y ++ z)) (slashed_texts ys)
 
-slashed_as_parts : (ss : List Segment) → slashed_parts (map segment ss) ≡ slashed_segments ss
+-- segments that stand alone are printed each behind a slash
+pub slashed_as_parts : (ss : List Segment) → slashed_parts (map segment ss) ≡ slashed_segments ss
 slashed_as_parts [] = refl
 slashed_as_parts (s ∷ ss) = ap (λ z. 47 ∷ (segment_text s ++ z)) (slashed_as_parts ss)
 

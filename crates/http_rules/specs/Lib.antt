@@ -8,4 +8,7 @@ pub mod TemplateFaults
 pub mod TemplateFaultTexts
 pub mod TemplateMachine
 pub mod TemplateLimits
+pub mod TemplateReading
+pub mod Routes
+pub mod RouteExamples
 pub mod Tokens

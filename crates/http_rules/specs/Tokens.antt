@@ -1,7 +1,8 @@
 -- Tokens (RFC 9110, section 5.6.2), as tests of bytes.
-use Rattle.std.specs.Prelude.{◌≡◌, ℕ, ◌&&◌, Bool, true, List, codes, length, nat_le, not}
+use Rattle.std.specs.Prelude.{◌≡◌, ℕ, ◌&&◌, ◌||◌, Bool, true, List, codes, length, nat_le, not}
 use Rattle.std.specs.List.{list_any}
 use Rattle.std.specs.Char.{is_ascii_uppercase}
+use Rattle.std.specs.Str.{bytes_eq}
 use Rattle.httparse.specs.Grammar as grammar
 
 -- tchar: a letter, a digit, or one of !#$%&'*+-.^_`|~
@@ -27,3 +28,17 @@ pub record NamedMethodsAreTokens : Type 0 where
   pub post : is_short_token (codes "POST") ≡ true
   pub delete : is_short_token (codes "DELETE") ≡ true
   pub patch : is_short_token (codes "PATCH") ≡ true
+
+-- a method of a binding: `*` for any, or a short token other than HEAD and CONNECT
+abbrev pub is_method_kind : List ℕ → Bool
+is_method_kind kind =
+    bytes_eq kind (codes "*")
+    || (is_short_token kind && (not (bytes_eq kind (codes "HEAD")) && not (bytes_eq kind (codes "CONNECT"))))
+
+-- the methods that a rule names by its field are methods of a binding
+pub record NamedMethodsAreKinds : Type 0 where
+  pub get : is_method_kind (codes "GET") ≡ true
+  pub put : is_method_kind (codes "PUT") ≡ true
+  pub post : is_method_kind (codes "POST") ≡ true
+  pub delete : is_method_kind (codes "DELETE") ≡ true
+  pub patch : is_method_kind (codes "PATCH") ≡ true

@@ -1,21 +1,32 @@
 //! Laws of the definitions that the calls' contracts cite. Each is the contract of an empty function.
-ghost use Rattle.std.specs.Prelude.{◌≡◌, ◌≢◌, ◌<◌, ◌≤◌, ◌↔◌, ℕ, List, [], ◌∷◌, ◌++◌, length, take, get_or, slice_get, Some};
+ghost use Rattle.std.specs.Prelude.{◌≡◌, ◌≢◌, ◌<◌, ◌≤◌, ◌↔◌, ℕ, IsTrue, List, [], ◌∷◌, ◌++◌, length, take, get_or, slice_get, Result, Some};
 ghost use Rattle.std.specs.List.{AllByRecursion, flat_map};
 ghost use Rattle.percent_encoding.specs.Percent.{percent_decode};
+ghost use Rattle.http_rules.specs.declared.fault.TemplateFault.{TemplateFault};
+ghost use Rattle.http_rules.specs.declared.template.Binding.{Binding};
 ghost use Rattle.http_rules.specs.declared.template.Template.{Template};
 ghost use Rattle.http_rules.specs.declared.template.Variable.{Variable};
 ghost use Rattle.http_rules.specs.declared.template.Segment.TheVariants.{Literal};
 ghost use Rattle.http_rules.specs.Template.{IsLiteral, IsSegment, IsTemplateText, IsTemplate, AreRanges, verb_text};
 ghost use Rattle.http_rules.specs.EscapedSlashes.{HasNoSlashEscape, decoded_parts, part_escaped, part_whole};
 ghost use Rattle.http_rules.specs.PercentDecoding.{captured, decode_but_slashes};
-ghost use Rattle.http_rules.specs.Tokens.{NamedMethodsAreTokens};
+ghost use Rattle.http_rules.specs.Routes.{AreRoutesApart, IsSameRoute, is_same_route, repeated_routes};
+ghost use Rattle.http_rules.specs.Tokens.{NamedMethodsAreKinds, NamedMethodsAreTokens};
 ghost use Rattle.http_rules.specs.TemplatePrefix.{BeginsTemplate, IsSyntaxFault};
+ghost use Rattle.http_rules.specs.TemplateReading.{IsReading, reading};
 ghost use Rattle.http_rules.specs.TemplateText.{template_text, slashed_segments};
 ghost use Rattle.http_rules.specs.TemplateMatch.{IsPath, AreLiterals, Matches, AreSpansOf, Fits};
 
 /// A text means one template at most.
 pub fn one_meaning()
     ensures { (text : List ℕ) (t u : Template) → IsTemplateText text t → IsTemplateText text u → t ≡ u }
+{}
+
+/// Of each text one thing is read: the template that it means, that it means one past the limits, or
+/// where it goes wrong.
+pub fn a_text_has_one_reading()
+    ensures each { (text : List ℕ) → IsReading text (reading text) }
+    ensures one { (text : List ℕ) (r : Result Template TemplateFault) → IsReading text r → r ≡ reading text }
 {}
 
 /// What is printed of a template means the same template.
@@ -88,4 +99,19 @@ pub fn decodings_differ_at_slashes()
 /// GET, PUT, POST, DELETE and PATCH are tokens of at most 32 bytes.
 pub fn named_methods_are_tokens()
     ensures { NamedMethodsAreTokens }
+{}
+
+/// GET, PUT, POST, DELETE and PATCH are methods of a binding.
+pub fn named_methods_are_kinds()
+    ensures { NamedMethodsAreKinds }
+{}
+
+/// The test whether two bindings are one route is true exactly where they are.
+pub fn same_route_is_tested()
+    ensures { (a b : Binding) → IsTrue (is_same_route a b) ↔ IsSameRoute a b }
+{}
+
+/// No two bindings are one route exactly where none repeats an earlier one.
+pub fn routes_apart_repeat_none()
+    ensures { (bindings : List Binding) → AreRoutesApart bindings ↔ (repeated_routes bindings ≡ []) }
 {}

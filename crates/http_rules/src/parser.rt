@@ -4,6 +4,7 @@ ghost use Rattle.http_rules.specs.Template.{IsTemplateText, IsWithinLimits, IsTe
 ghost use Rattle.http_rules.specs.TemplatePrefix.{IsSomeTemplate, IsSyntaxFault};
 ghost use Rattle.http_rules.specs.TemplateLimits.{RefusesOver};
 ghost use Rattle.http_rules.specs.TemplateFaults.{IsTooMany, IsUnlessNoMemory};
+ghost use Rattle.http_rules.specs.TemplateReading.{reading};
 
 use crate::fault::TemplateFault;
 use crate::parts::Parts;
@@ -79,6 +80,9 @@ pub fn parse_template(alloc: Global, text: &str) -> Result<Template, TemplateFau
 
     // A text that is no template is refused at its fault, and no other text is.
     ensures syntax { (offset : ℕ) → (result ≡ Err (TemplateFault.Syntax offset)) ↔ IsSyntaxFault text.now offset }
+
+    // All of it at once: the answer is what is read of the text, but for out of memory.
+    ensures reads { IsUnlessNoMemory result (reading text.now) }
 {
     read(alloc, text.as_bytes())
 }

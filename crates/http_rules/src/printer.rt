@@ -19,7 +19,7 @@ fn put_segment(out: &mut Vec<u8>, segment: &Segment) -> Result<(), NoMemory>
 }
 
 /// Each segment behind a slash.
-fn put_slashed(out: &mut Vec<u8>, segments: &[Segment]) -> Result<(), NoMemory>
+pub(crate) fn put_slashed(out: &mut Vec<u8>, segments: &[Segment]) -> Result<(), NoMemory>
     ensures { OnOk result (out.new.items ≡ out.old.items ++ slashed_segments segments.now) }
 {
     for segment in segments {
@@ -118,7 +118,8 @@ fn put_parts(
     put_slashed(out, &segments[from as usize..])
 }
 
-fn put_verb(out: &mut Vec<u8>, verb: &Option<Text>) -> Result<(), NoMemory>
+/// The verb behind its colon, if there is one.
+pub(crate) fn put_verb(out: &mut Vec<u8>, verb: &Option<Text>) -> Result<(), NoMemory>
     ensures { OnOk result (out.new.items ≡ out.old.items ++ verb_text verb.now) }
 {
     if let Some(text) = verb {

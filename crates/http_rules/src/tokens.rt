@@ -2,7 +2,7 @@
 ghost use Rattle.std.specs.Prelude.{◌≡◌};
 ghost use Rattle.std.specs.Char.{is_ascii_uppercase};
 ghost use Rattle.std.specs.List.{list_any};
-ghost use Rattle.http_rules.specs.Tokens.{is_lower_case_token, is_short_token, is_token, is_token_byte};
+ghost use Rattle.http_rules.specs.Tokens.{is_lower_case_token, is_method_kind, is_short_token, is_token, is_token_byte};
 
 /// The most bytes of a short token.
 const MAX_SHORT_TOKEN_BYTES: usize = 32;
@@ -46,4 +46,12 @@ pub fn is_lower_case_token(bytes: &[u8]) -> bool
     ensures { result ≡ is_lower_case_token bytes.now }
 {
     is_token(bytes) && !has_capital(bytes)
+}
+
+/// Whether a text can be the method of a binding: `*` for any, or a token of at most 32 bytes other
+/// than HEAD and CONNECT.
+pub fn is_method_kind(kind: &str) -> bool
+    ensures { result ≡ is_method_kind kind.now }
+{
+    kind == "*" || (is_short_token(kind.as_bytes()) && kind != "HEAD" && kind != "CONNECT")
 }

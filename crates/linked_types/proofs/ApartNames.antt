@@ -1,10 +1,8 @@
 -- No two types that are linked have one name, where no two of the set have.
 use Rattle.std.proofs.Common.{◌≡◌, ◌≢◌, ◌++◌, ℕ, zero, suc, Bool, false, List, [], ◌∷◌, map, nat_eq, Option, Some, None, option_map, refl, sym, ap, subst, ◌∙◌, slice_get, option_to_list}
 use Rattle.std.proofs.lemmas.Bool.{both_ways, eq-eqb}
-use Rattle.std.proofs.lemmas.List.{map-append}
 use Rattle.std.proofs.lemmas.Option.{slice_get-map}
-use Rattle.std.specs.List.{AllByRecursion, IsDistinct, flat_map}
-use Rattle.std.specs.Option.{option_map_or}
+use Rattle.std.specs.List.{AllByRecursion, AllZip, IsDistinct, flat_map}
 use Rattle.std.specs.Str.{bytes_eq}
 use Rattle.base.proofs.EachImageLemmas.{each_flat_weaker, each_option}
 use Rattle.base.proofs.EachLemmas.{each_joined, each_part, each_weaker}
@@ -15,9 +13,12 @@ use Rattle.descriptor_pool.specs.ReachableTypes.{Joined, messages_of, reachable,
 use Rattle.descriptor_pool.specs.ReachedClosure.{IsReachClosed}
 use Rattle.descriptor_pool.specs.SetMethods.{BoundMethod}
 use Rattle.linked_types.specs.LinkedNames.{declared_names, type_names}
-use Rattle.linked_types.specs.LinkedTypes.{index_in, linked_enum, linked_enums, linked_message, linked_messages, linked_types}
+use Rattle.linked_types.specs.LinkedTypes.{linked_enum, linked_enum_at, linked_item, linked_types}
+use Rattle.linked_types.proofs.EachSomeLemmas.{option_map_some}
+use Rattle.linked_types.proofs.LinkedParts.{enum_place, item_parts, message_place, types_parts}
 use Rattle.message_types.specs.declared.enums.EnumType.{EnumType}
 use Rattle.message_types.specs.declared.messages.MessageType.{MessageType}
+use Rattle.message_types.specs.declared.messages.Types.{Types}
 use Rattle.schema.specs.Apart.{AreApart}
 
 -- the items of a list at some indexes
@@ -101,60 +102,50 @@ module _ {X : Type 0} (same : X → X → Bool) (turned : (x y : X) → same x y
 
 module _ (types : SetTypes) where
   -- the names of linked messages are those of the set at their indexes
-  message_names : (message enum : ℕ → ℕ) (js : List Joined)
-      → map (λ (m : MessageType). m.name) (linked_messages types message enum js) ≡ picked
-      (map (λ (m : DeclaredMessage). m.name) types.messages) (messages_of js)
-  message_names message enum [] = refl
-  message_names message enum (j ∷ js) =
-      map-append (λ (m : MessageType). m.name)
-      (option_map_or (λ m. linked_message types message enum m ∷ []) (slice_get types.messages j.message) [])
-      (linked_messages types message enum js)
-      ∙ ap (λ z. map (λ (m : MessageType). m.name)
-      (option_map_or (λ m. linked_message types message enum m ∷ []) (slice_get types.messages j.message) [])
-      ++ z) (message_names message enum js)
-      ∙ ap (λ z. z ++ picked (map (λ (m : DeclaredMessage). m.name) types.messages) (messages_of js))
-      (one (slice_get types.messages j.message)
-      ∙ ap option_to_list (sym (slice_get-map (λ (m : DeclaredMessage). m.name) types.messages j.message)))
-    where
-      one : (o : Option DeclaredMessage)
-          → map (λ (m : MessageType). m.name)
-          (option_map_or (λ m. linked_message types message enum m ∷ []) o []) ≡ option_to_list
-          (option_map (λ (m : DeclaredMessage). m.name) o)
-      one None = refl
-      one (Some m) = refl
+  message_names : (message enum : ℕ → Option ℕ) (js : List Joined) (linked : List MessageType)
+      → AllZip (λ j m. linked_item types message enum j ≡ Some m) js linked
+      → map (λ (m : MessageType). m.name) linked ≡ picked (map (λ (m : DeclaredMessage). m.name) types.messages)
+      (messages_of js)
+  message_names message enum [] [] a = refl
+  message_names message enum [] (m ∷ linked) a = absurd a
+  message_names message enum (j ∷ js) [] a = absurd a
+  message_names message enum (j ∷ js) (m ∷ linked) a =
+      let item = item_parts types message enum j m a.0 in
+      let at : slice_get (map (λ (z : DeclaredMessage). z.name) types.messages) j.message ≡ Some m.name =
+      slice_get-map (λ (z : DeclaredMessage). z.name) types.messages j.message
+      ∙ ap (option_map (λ (z : DeclaredMessage). z.name)) item.declared_is ∙ ap (λ z. Some z) (sym item.name) in
+      ap (λ z. m.name ∷ z) (message_names message enum js linked a.1)
+      ∙ ap (λ o. option_to_list o ++ picked (map (λ (z : DeclaredMessage). z.name) types.messages) (messages_of js))
+      (sym at)
 
   -- and so are those of linked enums
-  enum_names : (is : List ℕ)
-      → map (λ (e : EnumType). e.name) (linked_enums types is) ≡ picked
-      (map (λ (e : DeclaredEnum). e.name) types.enums) is
-  enum_names [] = refl
-  enum_names (i ∷ is) =
-      map-append (λ (e : EnumType). e.name) (option_map_or (λ e. linked_enum e ∷ []) (slice_get types.enums i) [])
-      (linked_enums types is)
-      ∙ ap (λ z. map (λ (e : EnumType). e.name) (option_map_or (λ e. linked_enum e ∷ []) (slice_get types.enums i) [])
-      ++ z) (enum_names is)
-      ∙ ap (λ z. z ++ picked (map (λ (e : DeclaredEnum). e.name) types.enums) is)
-      (one (slice_get types.enums i)
-      ∙ ap option_to_list (sym (slice_get-map (λ (e : DeclaredEnum). e.name) types.enums i)))
-    where
-      one : (o : Option DeclaredEnum)
-          → map (λ (e : EnumType). e.name) (option_map_or (λ e. linked_enum e ∷ []) o []) ≡ option_to_list
-          (option_map (λ (e : DeclaredEnum). e.name) o)
-      one None = refl
-      one (Some e) = refl
+  enum_names : (is : List ℕ) (linked : List EnumType) → AllZip (λ i e. linked_enum_at types i ≡ Some e) is linked
+      → map (λ (e : EnumType). e.name) linked ≡ picked (map (λ (e : DeclaredEnum). e.name) types.enums) is
+  enum_names [] [] a = refl
+  enum_names [] (e ∷ linked) a = absurd a
+  enum_names (i ∷ is) [] a = absurd a
+  enum_names (i ∷ is) (e ∷ linked) a =
+      let at : slice_get (map (λ (z : DeclaredEnum). z.name) types.enums) i ≡ Some e.name =
+      option_map_some linked_enum (slice_get types.enums i) e a.0
+      (λ d h same. slice_get-map (λ (z : DeclaredEnum). z.name) types.enums i
+      ∙ ap (option_map (λ (z : DeclaredEnum). z.name)) h ∙ ap (λ (z : EnumType). Some z.name) same) in
+      ap (λ z. e.name ∷ z) (enum_names is linked a.1)
+      ∙ ap (λ o. option_to_list o ++ picked (map (λ (z : DeclaredEnum). z.name) types.enums) is) (sym at)
 
   -- the names of what is linked are apart, where those of the set are
-  pub names_apart : (ms : List BoundMethod) → IsReachClosed types ms → AreApart bytes_eq (declared_names types)
-      → AreApart bytes_eq (type_names (linked_types types (reachable types ms)))
-  names_apart ms closed a =
+  pub names_apart : (ms : List BoundMethod) (t : Types) → IsReachClosed types ms
+      → AreApart bytes_eq (declared_names types)
+      → linked_types types (reachable types ms) ≡ Some t → AreApart bytes_eq (type_names t)
+  names_apart ms t closed a linked =
       let js = reachable types ms in
       let is = reached_enums types js in
-      let messages = message_names (index_in (messages_of js)) (index_in is) js in
-      let enums = enum_names is in
+      let parts = types_parts types js t linked in
+      let messages = message_names (message_place js) (enum_place types js) js t.messages parts.messages in
+      let enums = enum_names is t.enums parts.enums in
       let both = apart_both bytes_eq bytes_eq_equiv.symm (map (λ (m : DeclaredMessage). m.name) types.messages)
       (map (λ (e : DeclaredEnum). e.name) types.enums) a
       (messages_of js) is closed.messages_once
       closed.enums_once in
-      subst (λ z. AreApart bytes_eq (z ++ map (λ (e : EnumType). e.name) (linked_enums types is))) (sym messages)
+      subst (λ z. AreApart bytes_eq (z ++ map (λ (e : EnumType). e.name) t.enums)) (sym messages)
       (subst (λ z. AreApart bytes_eq (picked (map (λ (m : DeclaredMessage). m.name) types.messages) (messages_of js)
       ++ z)) (sym enums) both)

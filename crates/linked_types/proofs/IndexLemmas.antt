@@ -1,16 +1,14 @@
--- Maps from indexes of the set to indexes of what is linked.
-use Rattle.std.proofs.Common.{◌≡◌, ◌<◌, ◌≤◌, ◌+◌, ◌-◌, ℕ, cond, List, length, drop, get_or, nat_eq, Some, sym, ap, ◌∙◌, arith, unwrap_or}
+-- Where an index stands among those that are linked, and maps that tell it.
+use Rattle.std.proofs.Common.{◌≡◌, ◌<◌, ◌≤◌, ◌+◌, ◌-◌, ◌||◌, ℕ, zero, suc, Bool, true, false, cond, List, [], ◌∷◌, length, drop, get_or, nat_eq, Some, IsSome, refl, sym, ap, subst, ◌∙◌, arith, slice_get}
+use Rattle.std.proofs.lemmas.Bool.{eqb-true}
+use Rattle.std.proofs.lemmas.Option.{same_Some}
+use Rattle.std.specs.List.{list_any}
 use Rattle.std.proofs.lemmas.List.{drop_more}
 use Rattle.std.specs.BTreeMap as tree
 use Rattle.std.specs.BTreeMap.{BTreeMap}
 use Rattle.std.specs.Ordering.{nat_cmp}
 use Rattle.base.proofs.NumberSetLemmas.{nat_tied}
-use Rattle.descriptor_pool.specs.DeclaredTypes.{SetTypes}
-use Rattle.linked_types.specs.LinkedTypes.{linked_enums, linked_messages, linked_types, index_from, index_in}
-use Rattle.linked_types.specs.IndexSteps.{AreIndexesOf, index_by}
-use Rattle.linked_types.specs.declared.linked_indexes.LinkedIndexes.{LinkedIndexes}
-use Rattle.descriptor_pool.specs.ReachableTypes.{Joined, messages_of, reached_enums}
-use Rattle.message_types.specs.declared.messages.Types.{Types}
+use Rattle.linked_types.specs.LinkedTypes.{index_from}
 
 -- after the item at an index got that index, the map has the index of each item from there on
 pub index_at_more : (indexes : List ℕ) (at : ℕ) (m n : BTreeMap ℕ ℕ) → 0 < at → at ≤ length indexes
@@ -27,20 +25,37 @@ index_at_more indexes at m n some within h held =
     ∙ ap (λ z. cond (nat_eq i x) (Some k) z) (held i ∙ ap (λ z. index_from z (drop z indexes) i) (sym next))
     ∙ ap (λ z. index_from k z i) (sym (drop_more indexes k 0 lt))
 
--- a map that has the indexes of a list tells where an item stands in it
-same_indexes : (m : BTreeMap ℕ ℕ) (is : List ℕ) → ((i : ℕ) → tree.get nat_cmp m i ≡ index_from 0 is i) → index_by m ≡ index_in is
-same_indexes m is h = λ i x. ap (λ o. unwrap_or o 0) (h x) i
+index_found : (k : ℕ) (xs : List ℕ) (i n : ℕ) → index_from k xs i ≡ Some n
+    → (d : ℕ) × (n ≡ k + d) × (slice_get xs d ≡ Some i)
+index_found k [] i n h = absurd (cc h)
+index_found k (x ∷ xs) i n h = pick (nat_eq i x) refl h (index_found (k + 1) xs i n)
+  where
+    pick : (b : Bool) → nat_eq i x ≡ b → cond b (Some k) (index_from (k + 1) xs i) ≡ Some n
+        → (index_from (k + 1) xs i ≡ Some n → (d : ℕ) × (n ≡ (k + 1) + d) × (slice_get xs d ≡ Some i))
+        → (d : ℕ) × (n ≡ k + d) × (slice_get (x ∷ xs) d ≡ Some i)
+    pick true e g next =
+        let same : k ≡ n = same_Some k n g in
+        (zero, omega arith, ap (λ z. Some z) (sym (eqb-true i x e)))
+    pick false e g next =
+        let rest = next g in
+        let at = rest.1 in
+        (suc rest.0, omega arith, rest.2)
 
--- types whose parts are linked by such maps are those that are linked
-pub types_by_indexes : (types : SetTypes) (js : List Joined) (is es : List ℕ) (linked : LinkedIndexes) (t : Types)
-    → is ≡ messages_of js → es ≡ reached_enums types js → AreIndexesOf linked is es
-    → t.messages ≡ linked_messages types (index_by linked.messages) (index_by linked.enums) js → t.enums ≡ linked_enums types es
-    → t ≡ linked_types types js
-types_by_indexes types js is es linked t hi he h a b =
-    let pm : index_by linked.messages ≡ index_in (messages_of js) = same_indexes linked.messages is h.by_message ∙ ap index_in hi in
-    let pe : index_by linked.enums ≡ index_in (reached_enums types js) = same_indexes linked.enums es h.by_enum ∙ ap index_in he in
-    let first : t.messages ≡ linked_messages types (index_in (messages_of js)) (index_in (reached_enums types js)) js =
-    a ∙ ap (λ z. linked_messages types z (index_by linked.enums) js) pm ∙ ap (λ z. linked_messages types (index_in (messages_of js)) z js) pe in
-    let second : t.enums ≡ linked_enums types (reached_enums types js) = b ∙ ap (linked_enums types) he in
-    ap (λ z. record { messages = z; enums = t.enums }) first
-    ∙ ap (λ z. record { messages = linked_messages types (index_in (messages_of js)) (index_in (reached_enums types js)) js; enums = z }) second
+-- the index that is found stands where it is found
+pub index_stands : (xs : List ℕ) (i n : ℕ) → index_from 0 xs i ≡ Some n → slice_get xs n ≡ Some i
+index_stands xs i n h =
+    let found = index_found 0 xs i n h in
+    let at = found.1 in
+    let same : found.0 ≡ n = omega arith in
+    subst (λ z. slice_get xs z ≡ Some i) same found.2
+
+-- an index that is among some is found
+pub index_some : (k : ℕ) (xs : List ℕ) (i : ℕ) → list_any (nat_eq i) xs ≡ true → IsSome (index_from k xs i)
+index_some k [] i h = absurd (cc h)
+index_some k (x ∷ xs) i h = pick (nat_eq i x) h (index_some (k + 1) xs i)
+  where
+    pick : (b : Bool) → (b || list_any (nat_eq i) xs) ≡ true
+        → (list_any (nat_eq i) xs ≡ true → IsSome (index_from (k + 1) xs i))
+        → IsSome (cond b (Some k) (index_from (k + 1) xs i))
+    pick true e next = refl
+    pick false e next = next e

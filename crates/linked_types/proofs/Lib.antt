@@ -1,12 +1,19 @@
--- Maps of indexes, and what is linked at each.
+-- Maps of indexes.
 pub mod IndexLemmas
-pub mod LinkedItems
--- What is linked is sound: its fields, its numbers and keys, the fields of well-known types.
+-- Lists in which each item has a value.
+pub mod EachSomeLemmas
+-- The parts of what is linked.
+pub mod LinkedParts
+-- Ids find names.
+pub mod NamedTypes
+pub mod ReachedIds
+-- What is linkable is linked.
 pub mod OwnTypes
 pub mod ScalarTypes
+pub mod LinkableLinked
+-- What is linked is sound: its fields, its numbers and keys, the fields of well-known types.
 pub mod SoundFields
 pub mod SoundKeys
-pub mod LinkedFirst
 pub mod KnownFields
 pub mod SoundTypes
 -- The names of what is linked are apart.

@@ -1,25 +1,30 @@
 -- What is linked of messages that are linkable is sound.
-use Rattle.std.proofs.Common.{◌≡◌, ◌<◌, ℕ, true, cond, Bool, false, List, [], length, Option, Some, None, refl, ap, subst, arith, slice_get}
-use Rattle.std.proofs.lemmas.List.{length-map}
+use Rattle.std.proofs.Common.{◌≡◌, ℕ, Bool, true, false, cond, List, [], Option, Some, None, refl, sym, ap, subst, ◌∙◌, slice_get}
 use Rattle.std.proofs.lemmas.List.Elements.{All-contains, All-from_recursion}
+use Rattle.std.proofs.lemmas.Option.{same_Some}
 use Rattle.std.specs.List.{AllByRecursion, Contains}
 use Rattle.std.specs.Option.{option_map_or}
 use Rattle.descriptors.specs.declared.file_set.FieldInfo.{FieldInfo}
-use Rattle.base.proofs.EachLemmas.{each_both, each_mapped, each_weaker}
-use Rattle.descriptor_pool.specs.DeclaredNames.{DeclaredEnum, DeclaredMessage}
+use Rattle.base.proofs.EachLemmas.{each_weaker}
+use Rattle.descriptor_pool.specs.DeclaredNames.{DeclaredMessage}
 use Rattle.descriptor_pool.specs.DeclaredTypes.{SetTypes, enum_named}
-use Rattle.descriptor_pool.specs.FieldTypes.{field_enum, field_message, has_type, value_field}
-use Rattle.descriptor_pool.specs.ReachableTypes.{Joined, fields_at, messages_of, reachable, reached_enums}
-use Rattle.descriptor_pool.specs.ReachedClosure.{HaveEnums, HaveMessages, IsAmong, IsNamedBy, IsReachClosed}
+use Rattle.descriptor_pool.specs.FieldTypes.{field_enum, has_type, value_field}
+use Rattle.descriptor_pool.specs.ReachableTypes.{Joined, fields_at, reachable, reached_enums}
+use Rattle.descriptor_pool.specs.ReachedClosure.{HaveEnums, IsNamedBy, IsReachClosed}
 use Rattle.descriptor_pool.specs.SetMethods.{BoundMethod}
-use Rattle.schema.specs.Soundness.{IsSound, IsSoundEnum, IsSoundField, IsSoundMessage}
+use Rattle.schema.specs.Soundness.{HasKnownFields, IsSound, IsSoundEnum, IsSoundField, IsSoundMessage}
+use Rattle.message_types.specs.declared.enums.EnumType.{EnumType}
+use Rattle.message_types.specs.declared.fields.Field.{Field}
+use Rattle.message_types.specs.declared.messages.MessageType.{MessageType}
 use Rattle.message_types.specs.declared.messages.Types.{Types}
 use Rattle.linked_types.specs.LinkableTypes.{AreLinkable, IsLinkableField, IsLinkableItem, IsSoundAt}
-use Rattle.linked_types.specs.LinkedTypes.{index_in, linked_enum, linked_field, linked_message, linked_types}
+use Rattle.linked_types.specs.LinkedTypes.{linked_enum, linked_enum_at, linked_field, linked_item, linked_types}
+use Rattle.linked_types.proofs.EachSomeLemmas.{each_zip, option_map_some, zip_weaker}
 use Rattle.linked_types.proofs.KnownFields.{known_fields}
-use Rattle.linked_types.proofs.LinkedItems.{each_linked_enum, each_linked_message, index_in_below, length-linked_enums, length-linked_messages}
+use Rattle.linked_types.proofs.LinkedParts.{AreTypesOf, enum_place, field_parts, item_parts, message_place, types_parts}
+use Rattle.linked_types.proofs.NamedTypes.{finds_name, natural_is}
 use Rattle.linked_types.proofs.SoundFields.{field_sound}
-use Rattle.linked_types.proofs.SoundKeys.{keys_apart, numbers_apart}
+use Rattle.linked_types.proofs.SoundKeys.{HasKeys, keys_apart, numbers_apart}
 
 -- what holds of each item of a list holds of one of it
 each_of : {X : Type 0} (P : X → Type 0) (xs : List X) (x : X) → AllByRecursion P xs → Contains xs x → P x
@@ -27,10 +32,12 @@ each_of P xs x a h = All-contains P xs x (All-from_recursion P xs a) h
 
 module _ (types : SetTypes) where
   -- the enum that a linkable field names is sound
-  enum_sound : (f : FieldInfo) → IsLinkableField types f → (i : ℕ) → field_enum types (value_field types f) ≡ Some i → IsSoundAt types i
+  enum_sound : (f : FieldInfo) → IsLinkableField types f → (i : ℕ) → field_enum types (value_field types f) ≡ Some i
+      → IsSoundAt types i
   enum_sound f k i h = pick (has_type 14 (value_field types f)) refl h
     where
-      pick : (b : Bool) → has_type 14 (value_field types f) ≡ b → cond b (enum_named types (value_field types f).type_name) None ≡ Some i → IsSoundAt types i
+      pick : (b : Bool) → has_type 14 (value_field types f) ≡ b
+          → cond b (enum_named types (value_field types f).type_name) None ≡ Some i → IsSoundAt types i
       pick false e g = absurd (cc g)
       pick true e g =
           let found = k.value.enum e in
@@ -41,81 +48,69 @@ module _ (types : SetTypes) where
   enums_sound : (j : Joined) → IsLinkableItem types j → HaveEnums types (IsSoundAt types) (fields_at types j.message)
   enums_sound j h = pick (slice_get types.messages j.message) refl
     where
-      pick : (o : Option DeclaredMessage) → slice_get types.messages j.message ≡ o → HaveEnums types (IsSoundAt types) (option_map_or (λ (m : DeclaredMessage). m.fields) o [])
+      pick : (o : Option DeclaredMessage) → slice_get types.messages j.message ≡ o
+          → HaveEnums types (IsSoundAt types) (option_map_or (λ (m : DeclaredMessage). m.fields) o [])
       pick None e = tt
-      pick (Some m) e = each_weaker (IsLinkableField types) (λ f. (i : ℕ) → field_enum types (value_field types f) ≡ Some i → IsSoundAt types i) enum_sound m.fields (h m e).fields
+      pick (Some m) e = each_weaker (IsLinkableField types)
+          (λ f. (i : ℕ) → field_enum types (value_field types f) ≡ Some i → IsSoundAt types i) enum_sound m.fields
+          (h m e).fields
 
-  module _ (ms : List BoundMethod) (closed : IsReachClosed types ms) where
-    abbrev js : List Joined
-    js = reachable types ms
+  module _ (js : List Joined) (t : Types) (parts : AreTypesOf types js t) where
+    -- a field is linked of one of a message
+    abbrev IsLinkIn : DeclaredMessage → FieldInfo → Field → Type 0
+    IsLinkIn m f g = linked_field types (message_place js) (enum_place types js) m.syntax m.fields f ≡ Some g
 
-    abbrev message : ℕ → ℕ
-    message = index_in (messages_of js)
+    sound_field : (m : DeclaredMessage) (f : FieldInfo) (g : Field) → IsLinkIn m f g → IsLinkableField types f
+        → IsSoundField t g
+    sound_field m f g h k =
+        let field = field_parts types (message_place js) (enum_place types js) m.syntax m.fields f g h in
+        field_sound types (message_place js) (enum_place types js) m.syntax m.fields f g k field t
+        (finds_name types js t parts field.value g.kind field.kind)
 
-    abbrev enum : ℕ → ℕ
-    enum = index_in (reached_enums types js)
+    has_keys : (m : DeclaredMessage) (f : FieldInfo) (g : Field) → IsLinkIn m f g → HasKeys f g
+    has_keys m f g h =
+        let field = field_parts types (message_place js) (enum_place types js) m.syntax m.fields f g h in
+        record { name = field.name; json = field.json; number = natural_is f.number g.number field.number }
 
-    abbrev linked : Types
-    linked = linked_types types js
-
-    -- a message, and an enum, that are reached
-    abbrev IsReached : ℕ → Type 0
-    IsReached = IsAmong (messages_of js)
-
-    abbrev IsNamed : ℕ → Type 0
-    IsNamed = IsAmong (reached_enums types js)
-
-    -- the number of a message that is reached is that of a linked one
-    pub message_in : (i : ℕ) → IsReached i → message i < length linked.messages
-    message_in i h =
-        let below = index_in_below (messages_of js) i h in
-        omega (arith, below, length-map js (λ (j : Joined). j.message), length-linked_messages types message enum js closed.messages_below)
-
-    enum_in : (i : ℕ) → IsNamed i → enum i < length linked.enums
-    enum_in i h =
-        let below = index_in_below (reached_enums types js) i h in
-        omega (arith, below, length-linked_enums types (reached_enums types js) closed.enums_below)
-
-    -- the message of an item is linkable, and what its fields name is reached
-    abbrev IsClosed : Joined → Type 0
-    IsClosed j = IsLinkableItem types j × (HaveMessages types IsReached (fields_at types j.message) × HaveEnums types IsNamed (fields_at types j.message))
-
-    message_sound : (j : Joined) (m : DeclaredMessage) → slice_get types.messages j.message ≡ Some m → IsClosed j → IsSoundMessage linked (linked_message types message enum m)
-    message_sound j m e c =
-        let k = c.0 m e in
-        let own : fields_at types j.message ≡ m.fields = ap (λ o. option_map_or (λ (n : DeclaredMessage). n.fields) o []) e in
-        let messages = subst (HaveMessages types IsReached) own c.1.0 in
-        let enums = subst (HaveEnums types IsNamed) own c.1.1 in
-        let link = linked_field types message enum m.syntax m.fields in
-        let Named : FieldInfo → Type 0 = λ f. (i : ℕ) → field_message types (value_field types f) ≡ Some i → IsReached i in
-        let Valued : FieldInfo → Type 0 = λ f. (i : ℕ) → field_enum types (value_field types f) ≡ Some i → IsNamed i in
+    -- the message type of a linkable item is sound
+    message_sound : (j : Joined) (linked : MessageType)
+        → linked_item types (message_place js) (enum_place types js) j ≡ Some linked → IsLinkableItem types j
+        → IsSoundMessage t linked
+    message_sound j linked h k =
+        let item = item_parts types (message_place js) (enum_place types js) j linked h in
+        let m = item.declared in
+        let own = k m item.declared_is in
+        let keys = zip_weaker (IsLinkIn m) HasKeys (has_keys m) m.fields linked.fields item.fields in
         record {
-          fields = each_mapped link (IsSoundField linked) m.fields
-              (each_weaker (λ f. IsLinkableField types f × (Named f × Valued f)) (λ f. IsSoundField linked (link f))
-              (λ f l. field_sound types m message enum f l.0 linked (record {
-                message_in = λ i h. message_in i (l.1.0 i h);
-                enum_in = λ i h. enum_in i (l.1.1 i h);
-              }))
-              m.fields
-              (each_both (IsLinkableField types) (λ f. Named f × Valued f) m.fields k.fields (each_both Named Valued m.fields messages enums)));
-          numbers = numbers_apart types message enum m.syntax m.fields m.fields k.fields k.numbers;
-          keys = keys_apart types message enum m.syntax m.fields m.fields k.names;
-          known = known_fields types message enum m.syntax m.fields m.name k.known;
+          fields = each_zip (IsLinkIn m) (IsLinkableField types) (IsSoundField t)
+              (sound_field m) m.fields linked.fields item.fields own.fields;
+          numbers = numbers_apart m.fields linked.fields keys own.numbers;
+          keys = keys_apart m.fields linked.fields keys own.names;
+          known = subst (λ z. HasKnownFields z linked.fields) (sym item.known)
+              (known_fields types (message_place js)
+              (enum_place types js) m.syntax own.syntax m.fields linked.fields item.fields m.name own.known);
         }
 
-    enum_reached : AreLinkable types js → (i : ℕ) → IsNamedBy types js i → IsSoundAt types i
-    enum_reached h i n =
-        let have = enums_sound n.item (each_of (IsLinkableItem types) js n.item h n.among) in
-        each_of (λ f. (k : ℕ) → field_enum types (value_field types f) ≡ Some k → IsSoundAt types k) (fields_at types n.item.message) n.field have n.inside i n.names
+    enum_at_sound : (i : ℕ) (e : EnumType) → linked_enum_at types i ≡ Some e → IsSoundAt types i → IsSoundEnum e
+    enum_at_sound i e h k =
+        option_map_some linked_enum (slice_get types.enums i) e h
+        (λ d at is. subst IsSoundEnum (ap linked_enum (same_Some k.enum d (sym k.enum_is ∙ at)) ∙ is) k.sound)
 
-    -- the types that are linked of messages that are linkable are sound
-    pub types_sound : AreLinkable types js → IsSound linked
-    types_sound h = record {
-      messages = each_linked_message types message enum IsClosed (IsSoundMessage linked) message_sound js
-          (each_both (IsLinkableItem types) (λ (j : Joined). HaveMessages types IsReached (fields_at types j.message) × HaveEnums types IsNamed (fields_at types j.message)) js h
-          (each_both (λ (j : Joined). HaveMessages types IsReached (fields_at types j.message)) (λ (j : Joined). HaveEnums types IsNamed (fields_at types j.message)) js closed.messages closed.enums));
-      enums = each_linked_enum types (IsSoundAt types) IsSoundEnum
-          (λ i e g k. let same : k.enum ≡ e = cc (k.enum_is, g) in subst (λ (d : DeclaredEnum). IsSoundEnum (linked_enum d)) same k.sound)
-          (reached_enums types js)
-          (each_weaker (IsNamedBy types js) (IsSoundAt types) (enum_reached h) (reached_enums types js) closed.enums_named);
+-- the types that are linked of messages that are linkable are sound
+pub types_sound : (types : SetTypes) (ms : List BoundMethod) (t : Types) → IsReachClosed types ms
+    → AreLinkable types (reachable types ms)
+    → linked_types types (reachable types ms) ≡ Some t → IsSound t
+types_sound types ms t closed linkable h =
+    let js = reachable types ms in
+    let parts = types_parts types js t h in
+    let named : (i : ℕ) → IsNamedBy types js i → IsSoundAt types i =
+    λ i n. each_of (λ f. (k : ℕ) → field_enum types (value_field types f) ≡ Some k → IsSoundAt types k)
+    (fields_at types n.item.message) n.field
+    (enums_sound types n.item (each_of (IsLinkableItem types) js n.item linkable n.among)) n.inside i n.names in
+    record {
+      messages = each_zip _ (IsLinkableItem types) (IsSoundMessage t)
+          (message_sound types js t parts) js t.messages parts.messages linkable;
+      enums = each_zip _ (IsSoundAt types) IsSoundEnum (enum_at_sound types js t parts)
+          (reached_enums types js) t.enums parts.enums
+          (each_weaker (IsNamedBy types js) (IsSoundAt types) named (reached_enums types js) closed.enums_named);
     }

@@ -1,3 +1,5 @@
+pub mod EachSome
+pub mod FoundNames
 pub mod IndexSteps
 pub mod LinkableTypes
 pub mod LinkedNames

@@ -1,64 +1,28 @@
 //! Fields of message types (descriptor.proto, FieldDescriptorProto).
-ghost use Rattle.std.specs.Prelude.{◌≡◌, map, IfOk};
-ghost use Rattle.linked_types.specs.LinkedTypes.{is_explicit, is_packed, key_scalar, linked_field, linked_kind, linked_shape, packs_by_default, plain_shape, scalar_of};
-ghost use Rattle.linked_types.specs.IndexSteps.{index_by};
+ghost use Rattle.std.specs.Prelude.{◌≡◌, IfOk};
+ghost use Rattle.linked_types.specs.EachSome.{each_some};
+ghost use Rattle.linked_types.specs.LinkedTypes.{index_from, is_explicit, is_packed, is_proto3, key_scalar, linked_field, linked_shape, plain_shape, presence_of};
 ghost use Rattle.linked_types.specs.RealNumbers.{AreRealNumbers};
 
-use crate::linked_indexes::LinkedIndexes;
+use crate::linked_indexes::Places;
+use crate::linked_kinds::{is_message, scalar_of, value_kind};
 use crate::real_oneofs::{natural, real_numbers, real_oneof};
 use base::{List, NoMemory, Text};
 use descriptor_pool::{DeclaredMessage, SetTypes, field_numbered, is_repeated, json_of};
 use descriptors::FieldInfo;
 use descriptors::descriptor_numbers::{
-    ENTRY_KEY, TYPE_BOOL, TYPE_BYTES, TYPE_ENUM, TYPE_FIXED32, TYPE_FIXED64, TYPE_GROUP,
-    TYPE_INT32, TYPE_INT64, TYPE_MESSAGE, TYPE_SFIXED32, TYPE_SFIXED64, TYPE_SINT32, TYPE_SINT64,
-    TYPE_STRING, TYPE_UINT32, TYPE_UINT64,
+    ENTRY_KEY, TYPE_BYTES, TYPE_GROUP, TYPE_MESSAGE, TYPE_STRING,
 };
-use schema::{EnumId, Field, Kind, Presence, Scalar, Shape, TypeId};
+use schema::{Field, Presence, Scalar, Shape};
 use std::alloc::Global;
 
-/// The scalar of a type number.
-fn scalar_of(number: i32) -> Scalar
-    ensures { result ≡ scalar_of number }
-{
-    match number {
-        TYPE_INT64 => Scalar::Int64,
-        TYPE_UINT64 => Scalar::Uint64,
-        TYPE_INT32 => Scalar::Int32,
-        TYPE_FIXED64 => Scalar::Fixed64,
-        TYPE_FIXED32 => Scalar::Fixed32,
-        TYPE_BOOL => Scalar::Bool,
-        TYPE_STRING => Scalar::Text,
-        TYPE_UINT32 => Scalar::Uint32,
-        TYPE_SFIXED32 => Scalar::Sfixed32,
-        TYPE_SFIXED64 => Scalar::Sfixed64,
-        TYPE_SINT32 => Scalar::Sint32,
-        TYPE_SINT64 => Scalar::Sint64,
-        _ => Scalar::Bytes,
-    }
-}
-
-/// What one value of a field is, by the field that has its type.
-fn linked_kind(types: &SetTypes<'_>, indexes: &LinkedIndexes, value: &FieldInfo) -> Kind
-    ensures { result ≡ linked_kind types.now (index_by indexes.now.messages) (index_by indexes.now.enums) value.now }
-{
-    if value.type_number == TYPE_MESSAGE {
-        return Kind::Message(TypeId(indexes.message(types.field_message(value))));
-    }
-    if value.type_number == TYPE_ENUM {
-        let id = EnumId(indexes.enumeration(types.field_enum(value)));
-        return Kind::One(Scalar::Enumeration(id));
-    }
-    Kind::One(scalar_of(value.type_number))
-}
-
-/// The scalar of the keys of a map.
-fn key_scalar(entry: &DeclaredMessage<'_>) -> Scalar
+/// The scalar of the keys of a map, by its entry.
+fn key_scalar(entry: &DeclaredMessage<'_>) -> Option<Scalar>
     ensures { result ≡ key_scalar entry.now }
 {
     match field_numbered(entry.info.field.as_slice(), ENTRY_KEY) {
         Some(key) => scalar_of(key.type_number),
-        None => Scalar::Bytes,
+        None => None,
     }
 }
 
@@ -77,37 +41,44 @@ fn plain_shape(fields: &[FieldInfo], numbers: &[Option<u32>], field: &FieldInfo)
 }
 
 /// How many values a field has.
-fn linked_shape(
-    types: &SetTypes<'_>,
+fn linked_shape<'a>(
+    types: &SetTypes<'a>,
     fields: &[FieldInfo],
     numbers: &[Option<u32>],
-    field: &FieldInfo,
-) -> Shape
+    field: &'a FieldInfo,
+) -> Option<Shape>
     requires { AreRealNumbers fields.now numbers.now }
     ensures { result ≡ linked_shape types.now fields.now field.now }
 {
     match types.map_entry(field) {
-        Some(entry) => Shape::Map(key_scalar(entry)),
-        None => plain_shape(fields, numbers, field),
+        Some(entry) => Some(Shape::Map(key_scalar(entry)?)),
+        None => Some(plain_shape(fields, numbers, field)),
     }
 }
 
-/// True for a singular message, a member of a real oneof and an optional field of proto3.
-fn is_explicit(fields: &[FieldInfo], numbers: &[Option<u32>], field: &FieldInfo) -> bool
-    requires { AreRealNumbers fields.now numbers.now }
-    ensures { result ≡ is_explicit fields.now field.now }
-{
-    !is_repeated(field)
-        && (field.type_number == TYPE_MESSAGE
-            || real_oneof(fields, numbers, field.oneof_index).is_some()
-            || field.proto3_optional)
-}
-
-/// True where lists of a file of this syntax are packed if they do not say it.
-fn packs_by_default(syntax: &str) -> bool
-    ensures { result ≡ packs_by_default syntax.now }
+/// True for a file of proto3.
+fn is_proto3(syntax: &str) -> bool
+    ensures { result ≡ is_proto3 syntax.now }
 {
     syntax == "proto3"
+}
+
+/// True in proto3 for a singular message, a member of a real oneof and an optional field, and in a file
+/// of any other syntax for each singular field.
+fn is_explicit(
+    syntax: &str,
+    fields: &[FieldInfo],
+    numbers: &[Option<u32>],
+    field: &FieldInfo,
+) -> bool
+    requires { AreRealNumbers fields.now numbers.now }
+    ensures { result ≡ is_explicit syntax.now fields.now field.now }
+{
+    !is_repeated(field)
+        && (!is_proto3(syntax)
+            || is_message(field)
+            || real_oneof(fields, numbers, field.oneof_index).is_some()
+            || field.proto3_optional)
 }
 
 /// True for a list that is packed, in a file of this syntax.
@@ -120,56 +91,81 @@ fn is_packed(syntax: &str, field: &FieldInfo) -> bool
             || number == TYPE_MESSAGE
             || number == TYPE_BYTES
             || number == TYPE_GROUP)
-        && field.packed.unwrap_or(packs_by_default(syntax))
+        && field.packed.unwrap_or(is_proto3(syntax))
 }
 
-/// The field of a declaration in a message with these fields, in a file of this syntax.
-fn linked_field(
-    alloc: Global,
-    types: &SetTypes<'_>,
-    indexes: &LinkedIndexes,
+/// Whether the default of a field is told from its absence.
+fn presence_of(
     syntax: &str,
     fields: &[FieldInfo],
     numbers: &[Option<u32>],
     field: &FieldInfo,
-) -> Result<Field, NoMemory>
+) -> Presence
     requires { AreRealNumbers fields.now numbers.now }
-    ensures { IfOk result (λ f. f ≡ linked_field types.now (index_by indexes.now.messages) (index_by indexes.now.enums) syntax.now fields.now field.now) }
+    ensures { result ≡ presence_of syntax.now fields.now field.now }
 {
-    let value = (&*types).value_field(field);
-    let kind = linked_kind(types, indexes, value);
-    let presence = if is_explicit(fields, numbers, field) {
-        Presence::Explicit
-    } else {
-        Presence::Implicit
+    if is_explicit(syntax, fields, numbers, field) {
+        return Presence::Explicit;
+    }
+    Presence::Implicit
+}
+
+/// The field of a declaration in a message with these fields, in a file of this syntax.
+fn linked_field<'a>(
+    alloc: Global,
+    types: &SetTypes<'a>,
+    messages: &Places,
+    enums: &Places,
+    syntax: &str,
+    fields: &[FieldInfo],
+    numbers: &[Option<u32>],
+    field: &'a FieldInfo,
+) -> Result<Option<Field>, NoMemory>
+    requires { AreRealNumbers fields.now numbers.now }
+    ensures { IfOk result (λ f. f ≡ linked_field types.now (index_from 0 messages.now) (index_from 0 enums.now) syntax.now fields.now field.now) }
+{
+    let Some(number) = natural(field.number) else {
+        return Ok(None);
     };
-    Ok(Field {
+    let Some(kind) = value_kind(types, messages, enums, field) else {
+        return Ok(None);
+    };
+    let Some(shape) = linked_shape(types, fields, numbers, field) else {
+        return Ok(None);
+    };
+    Ok(Some(Field {
         name: Text::copy_of(alloc, field.name.as_str())?,
         json: json_of(alloc, field)?,
-        number: natural(field.number),
+        number,
         kind,
-        shape: linked_shape(types, fields, numbers, field),
-        presence,
+        shape,
+        presence: presence_of(syntax, fields, numbers, field),
         packed: is_packed(syntax, field),
-    })
+    }))
 }
 
 /// The fields of the declarations of a message with so many oneofs, in a file of this syntax.
-pub(crate) fn linked_fields(
+pub(crate) fn linked_fields<'a>(
     alloc: Global,
-    types: &SetTypes<'_>,
-    indexes: &LinkedIndexes,
+    types: &SetTypes<'a>,
+    messages: &Places,
+    enums: &Places,
     syntax: &str,
-    fields: &[FieldInfo],
+    fields: &'a [FieldInfo],
     oneofs: u32,
-) -> Result<List<Field>, NoMemory>
-    ensures { IfOk result (λ fs. fs ≡ map (linked_field types.now (index_by indexes.now.messages) (index_by indexes.now.enums) syntax.now fields.now) fields.now) }
+) -> Result<Option<List<Field>>, NoMemory>
+    ensures { IfOk result (λ fs. fs ≡ each_some (linked_field types.now (index_from 0 messages.now) (index_from 0 enums.now) syntax.now fields.now) fields.now) }
 {
     let all_numbers = real_numbers(alloc, fields, oneofs)?;
     let numbers = all_numbers.as_slice();
     let mut linked = List::new(alloc);
     for field in fields {
-        linked.push(linked_field(alloc, types, indexes, syntax, fields, numbers, field)?)?;
+        match linked_field(
+            alloc, types, messages, enums, syntax, fields, numbers, field,
+        )? {
+            Some(field) => linked.push(field)?,
+            None => return Ok(None),
+        }
     }
-    Ok(linked)
+    Ok(Some(linked))
 }

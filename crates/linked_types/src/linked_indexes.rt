@@ -1,84 +1,77 @@
-//! The indexes of messages and enums among those that are linked, by their indexes in the set.
-ghost use Rattle.std.specs.Prelude.{◌≡◌, ◌<◌, ◌^◌, ℕ, fold, length, map, unwrap_or, IfOk, OnOk};
-ghost use Rattle.std.specs.BTreeMap.{get};
+//! The places of messages and enums among those that are linked, by their indexes in the set.
+ghost use Rattle.std.specs.Prelude.{◌≡◌, ◌<◌, ◌^◌, ◌≤◌, fold, length, IfOk, OnOk};
 ghost use Rattle.std.specs.List.{flat_map};
-ghost use Rattle.std.specs.Ordering.{nat_cmp};
 ghost use Rattle.linked_types.specs.LinkedTypes.{index_from};
-ghost use Rattle.linked_types.specs.IndexSteps.{AreIndexesOf, HasIndexes, index_by};
-ghost use Rattle.descriptor_pool.specs.ReachableTypes.{Joined as JoinedOf, message_enums, named_enum, reached_enums, with_index};
+ghost use Rattle.linked_types.specs.IndexSteps.{HasIndexes, IsIndexOf};
+ghost use Rattle.descriptor_pool.specs.ReachableTypes.{message_enums, messages_of, named_enum, reached_enums, with_index};
 
 use base::NoMemory;
 use descriptor_pool::{Joined, SetTypes};
 use descriptors::FieldInfo;
 use std::alloc::Global;
 use std::collections::{BTreeMap, BTreeSet};
+use std::marker::Model;
 
-/// The indexes that messages and enums have in what is linked, by those that they have in the set.
+/// Indexes of the set, in the order in which they are linked.
 #[derive(Drop)]
-pub(crate) struct LinkedIndexes {
-    /// Those of messages.
-    pub messages: BTreeMap<usize, u32>,
-    /// Those of enums.
-    pub enums: BTreeMap<usize, u32>,
+pub(crate) struct Places {
+    indexes: Vec<usize>,
+    by_index: BTreeMap<usize, u32>,
+}
+
+impl Model for Places {
+    ghost use Rattle.std.specs.Prelude.{ℕ, List};
+    ghost use Rattle.linked_types.specs.IndexSteps.{IsIndexOf};
+
+    ghost Value = { List ℕ };
+
+    ghost view = { λ p. p.indexes.items };
+
+    ghost invariant = { λ p. IsIndexOf p.by_index p.indexes.items };
 }
 
 /// Where each index stands among some: the first that is it.
-fn indexes_by(alloc: Global, indexes: &[usize]) -> Result<BTreeMap<usize, u32>, NoMemory>
+fn index_of(alloc: Global, indexes: &[usize]) -> Result<BTreeMap<usize, u32>, NoMemory>
     requires { length indexes.now < 2 ^ 32 }
-    ensures { IfOk result (λ m. (i : ℕ) → get nat_cmp m i ≡ index_from 0 indexes.now i) }
+    ensures { IfOk result (λ m. IsIndexOf m indexes.now) }
 {
-    let mut linked = BTreeMap::new(alloc);
+    let mut places = BTreeMap::new(alloc);
     let mut at = indexes.len() as u32;
     while at > 0 {
         at -= 1;
-        linked.insert(indexes[at as usize], at)?;
+        places.insert(indexes[at as usize], at)?;
     }
-    Ok(linked)
+    Ok(places)
 }
 
-/// The index that a map has for one of the set, or 0.
-fn index_by(indexes: &BTreeMap<usize, u32>, index: Option<usize>) -> u32
-    ensures { result ≡ index_by indexes.now (unwrap_or index 0) }
-{
-    let index = index.unwrap_or(0);
-    indexes.get(&index).copied().unwrap_or(0)
-}
-
-/// The indexes of messages and enums that are linked in this order.
-pub(crate) fn indexes_of(
-    alloc: Global,
-    messages: &[usize],
-    enums: &[usize],
-) -> Result<LinkedIndexes, NoMemory>
-    requires messages { length messages.now < 2 ^ 32 }
-    requires enums { length enums.now < 2 ^ 32 }
-    ensures { IfOk result (λ linked. AreIndexesOf linked messages.now enums.now) }
-{
-    Ok(LinkedIndexes {
-        messages: indexes_by(alloc, messages)?,
-        enums: indexes_by(alloc, enums)?,
-    })
-}
-
-impl LinkedIndexes {
-    /// The index of a message in what is linked, or 0.
-    pub(crate) fn message(&self, index: Option<usize>) -> u32
-        ensures { result ≡ index_by self.now.messages (unwrap_or index 0) }
+impl Places {
+    /// The places of indexes.
+    fn new(alloc: Global, indexes: Vec<usize>) -> Result<Places, NoMemory>
+        requires { length indexes.items < 2 ^ 32 }
+        ensures { IfOk result (λ places. places ≡ indexes.items) }
     {
-        index_by(&self.messages, index)
+        let by_index = index_of(alloc, indexes.as_slice())?;
+        Ok(Places { indexes, by_index })
     }
 
-    /// The index of an enum in what is linked, or 0.
-    pub(crate) fn enumeration(&self, index: Option<usize>) -> u32
-        ensures { result ≡ index_by self.now.enums (unwrap_or index 0) }
+    /// The indexes, in order.
+    pub(crate) fn indexes(&self) -> &[usize]
+        ensures { result.now ≡ self.now }
     {
-        index_by(&self.enums, index)
+        self.indexes.as_slice()
+    }
+
+    /// The place of an index: of the first that is it.
+    pub(crate) fn place(&self, index: usize) -> Option<u32>
+        ensures { result ≡ index_from 0 self.now index }
+    {
+        self.by_index.get(&index).copied()
     }
 }
 
 /// The indexes of the messages that are reached.
-pub(crate) fn message_indexes(alloc: Global, reached: &[Joined<'_>]) -> Result<Vec<usize>, NoMemory>
-    ensures { IfOk result (λ is. is.items ≡ map (λ (j : JoinedOf). j.message) reached.now) }
+fn message_indexes(alloc: Global, reached: &[Joined<'_>]) -> Result<Vec<usize>, NoMemory>
+    ensures { IfOk result (λ is. is.items ≡ messages_of reached.now) }
 {
     let mut indexes = Vec::new(alloc);
     for joined in reached {
@@ -87,18 +80,26 @@ pub(crate) fn message_indexes(alloc: Global, reached: &[Joined<'_>]) -> Result<V
     Ok(indexes)
 }
 
+/// The places of the messages that are reached.
+pub(crate) fn message_places(alloc: Global, reached: &[Joined<'_>]) -> Result<Places, NoMemory>
+    requires { length reached.now < 2 ^ 32 }
+    ensures { IfOk result (λ places. places ≡ messages_of reached.now) }
+{
+    Places::new(alloc, message_indexes(alloc, reached)?)
+}
+
 /// Appends the index of an enum, where it is new.
-fn put_enum(
+fn put_enum<'a>(
     enums: &mut Vec<usize>,
     seen: &mut BTreeSet<usize>,
-    types: &SetTypes<'_>,
-    field: &FieldInfo,
+    types: &SetTypes<'a>,
+    field: &'a FieldInfo,
 ) -> Result<(), NoMemory>
     requires { HasIndexes seen.old enums.old.items }
     ensures enums { OnOk result (enums.new.items ≡ fold with_index enums.old.items (named_enum types.now field.now)) }
     ensures seen { OnOk result (HasIndexes seen.new enums.new.items) }
 {
-    let value = (&*types).value_field(field);
+    let value = types.value_field(field);
     match types.field_enum(value) {
         Some(index) => {
             if seen.insert(index)? {
@@ -111,11 +112,11 @@ fn put_enum(
 }
 
 /// Appends the indexes of the enums that fields name, each where it is new.
-fn put_enums(
+fn put_enums<'a>(
     enums: &mut Vec<usize>,
     seen: &mut BTreeSet<usize>,
-    types: &SetTypes<'_>,
-    fields: &[FieldInfo],
+    types: &SetTypes<'a>,
+    fields: &'a [FieldInfo],
 ) -> Result<(), NoMemory>
     requires { HasIndexes seen.old enums.old.items }
     ensures enums { OnOk result (enums.new.items ≡ fold with_index enums.old.items (flat_map (named_enum types.now) fields.now)) }
@@ -128,12 +129,13 @@ fn put_enums(
 }
 
 /// The indexes of the enums that are reached, each where it is first named.
-pub(crate) fn enum_indexes(
+fn enum_indexes(
     alloc: Global,
     types: &SetTypes<'_>,
     reached: &[Joined<'_>],
 ) -> Result<Vec<usize>, NoMemory>
-    ensures { IfOk result (λ is. is.items ≡ reached_enums types.now reached.now) }
+    ensures is { IfOk result (λ is. is.items ≡ reached_enums types.now reached.now) }
+    ensures len { IfOk result (λ is. length is.items ≤ length types.now.enums) }
 {
     let mut enums = Vec::new(alloc);
     let mut seen = BTreeSet::new(alloc);
@@ -147,4 +149,16 @@ pub(crate) fn enum_indexes(
     }
     enums.truncate(types.enums().len());
     Ok(enums)
+}
+
+/// The places of the enums that are reached.
+pub(crate) fn enum_places(
+    alloc: Global,
+    types: &SetTypes<'_>,
+    reached: &[Joined<'_>],
+) -> Result<Places, NoMemory>
+    requires { length types.now.enums < 2 ^ 32 }
+    ensures { IfOk result (λ places. places ≡ reached_enums types.now reached.now) }
+{
+    Places::new(alloc, enum_indexes(alloc, types, reached)?)
 }

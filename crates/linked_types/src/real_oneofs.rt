@@ -121,13 +121,13 @@ fn real_number(fields: &[FieldInfo], numbers: &[Option<u32>], index: u32) -> Opt
     }
 }
 
-/// A number that is not negative, or 0.
-pub(crate) fn natural(number: i32) -> u32
+/// A number that is not negative.
+pub(crate) fn natural(number: i32) -> Option<u32>
     ensures { result ≡ natural number }
 {
     match u32::try_from(number) {
-        Ok(number) => number,
-        Err(_) => 0,
+        Ok(number) => Some(number),
+        Err(_) => None,
     }
 }
 

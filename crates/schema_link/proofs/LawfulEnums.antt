@@ -13,7 +13,8 @@ use Rattle.message_types.specs.declared.enums.EnumType.{EnumType}
 use Rattle.message_types.specs.declared.enums.EnumValue.{EnumValue}
 use Rattle.set_faults.specs.MessageFaults.{begins_with_zero, is_lawful_enum}
 
-apart : {X : Type 0} (test : X → X → Bool) (xs : List X) → IsDistinct test xs → AreApart test xs
+-- items that are distinct are apart
+pub apart : {X : Type 0} (test : X → X → Bool) (xs : List X) → IsDistinct test xs → AreApart test xs
 unfolding IsDistinct
 apart test [] d = tt
 apart test (x ∷ xs) d = (d.0, apart test xs d.1)
@@ -27,7 +28,8 @@ pub enum_sound : (e : EnumType) → is_lawful_enum e.values ≡ true → IsSound
 enum_sound e h =
     let names = map (λ (v : EnumValue). v.name) e.values in
     let parts = and_parts (begins_with_zero e.values) (distinct_count bytes_eq names == length e.values) h in
-    let count = eqb-true (distinct_count bytes_eq names) (length e.values) parts.1 ∙ sym (length-map e.values (λ (v : EnumValue). v.name)) in
+    let count = eqb-true (distinct_count bytes_eq names) (length e.values) parts.1
+    ∙ sym (length-map e.values (λ (v : EnumValue). v.name)) in
     record {
       some = some e.values parts.0;
       names = apart bytes_eq names (IsDistinct-from_count bytes_eq_equiv names count);

@@ -1,16 +1,17 @@
--- What lists of faults say where they are empty, of fields, enums, keys and numbers.
-pub mod NoFaults
+-- Messages that are lawful are linkable.
 pub mod LawfulEnums
-pub mod TypedFields
 pub mod EntryKeys
-pub mod LawfulFields
-pub mod ApartNumbers
-pub mod ApartKeys
--- A set without faults is linkable, so what is linked of it is sound.
-pub mod LinkableSets
--- What is linked of a set is linked.
-pub mod SetNames
-pub mod LinkedApis
--- What is linked of methods and of templates.
-pub mod ServedLemmas
-pub mod TemplateLemmas
+pub mod LawfulTypes
+-- Lists that are given item by item.
+pub mod GivenItems
+-- The rules of methods and their bindings.
+pub mod RuleLemmas
+pub mod BoundRules
+pub mod RouteLemmas
+pub mod ParsedRules
+-- What is linked of a set is there, is one, and is linked.
+pub mod ApartNames
+pub mod LinkedSets
+pub mod SetLemmas
+pub mod ReadySets
+pub mod SetAnswers

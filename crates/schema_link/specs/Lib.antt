@@ -1,9 +1,11 @@
-pub use Rattle.http_rules.specs.PercentDecoding
-pub use Rattle.http_rules.specs.Template
+pub use Rattle.http_rules.specs.Routes
+pub use Rattle.linked_api.specs.LinkedApi
+pub use Rattle.linked_bindings.specs.BindingFaults
 pub use Rattle.linked_types.specs.LinkableTypes
 pub use Rattle.linked_types.specs.LinkedTypes
 pub use Rattle.set_faults.specs.LinkFaults
 pub use Rattle.set_faults.specs.SetFaults
-pub mod ServedTemplates
 pub mod SetApi
-pub mod LinkedApi
+pub mod LinkAnswers
+pub mod LinkSteps
+pub mod SetNames

@@ -1,46 +1,64 @@
 //! Laws of what is linked. Each is the contract of a function that calls the laws that it follows from.
-ghost use Rattle.std.specs.Prelude.{◌≡◌, ℕ, [], List, Ok};
+ghost use Rattle.std.specs.Prelude.{◌≡◌, [], List, Ok};
 ghost use Rattle.descriptors.specs.declared.file_set.FileSet.{FileSet};
-ghost use Rattle.descriptor_pool.specs.DeclaredNames.{declarations};
+ghost use Rattle.descriptor_pool.specs.DeclaredNames.{Declaration, declarations};
 ghost use Rattle.descriptor_pool.specs.DeclaredTypes.{types_in};
 ghost use Rattle.descriptor_pool.specs.ReachableTypes.{reachable};
-ghost use Rattle.descriptor_pool.specs.SetMethods.{bound_methods};
-ghost use Rattle.http_rules.specs.declared.template.Template.{Template};
+ghost use Rattle.descriptor_pool.specs.SetMethods.{BoundMethod, bound_methods};
+ghost use Rattle.linked_api.specs.LinkedApi.{IsLinked};
+ghost use Rattle.linked_api.specs.declared.api.Api.{Api};
 ghost use Rattle.linked_types.specs.LinkableTypes.{AreLinkable};
-ghost use Rattle.schema.specs.Soundness.{IsSound};
-ghost use Rattle.schema_link.specs.LinkedApi.{IsLinked};
-ghost use Rattle.schema_link.specs.ServedTemplates.{IsTemplateOf};
-ghost use Rattle.schema_link.specs.SetApi.{IsLinkOf};
-ghost use Rattle.schema_link.specs.declared.api.Api.{Api};
-ghost use Rattle.set_faults.specs.SetFaults.{faults};
+ghost use Rattle.schema_link.specs.LinkAnswers.{IsLinkOf, faults};
+ghost use Rattle.schema_link.specs.LinkSteps.{IsReady};
+ghost use Rattle.schema_link.specs.SetApi.{IsSetApi};
+ghost use Rattle.schema_link.specs.SetNames.{HasDeclaredNames};
+ghost use Rattle.set_faults.specs.SetFaults.{all_faults};
 
 /// The messages that the methods of a set without faults reach are linkable.
 pub fn faultless_sets_are_linkable()
-    ensures { (set : FileSet) → faults set ≡ [] → AreLinkable (types_in (declarations set)) (reachable (types_in (declarations set)) (bound_methods set)) }
-{}
-
-/// What is linked of a set is sound.
-pub fn what_is_linked_is_sound()
-    ensures { (set : FileSet) (api : Api) → IsLinkOf set (Ok api) → IsSound api.types }
+    ensures { (set : FileSet) → faults set ≡ []
+        → AreLinkable (types_in (declarations set)) (reachable (types_in (declarations set)) (bound_methods set)) }
 {
-    linked_types::laws::what_is_linked_is_sound();
+    set_faults::laws::faultless_sets_are_lawful();
 }
 
-/// What is linked of a set is linked: no two types have one name, what its methods and bindings name
-/// is there, and no two bindings are one route.
+/// Where declarations with methods have no fault no look-up fails in linking.
+pub fn faultless_sets_are_ready()
+    ensures { (ds : List Declaration) (ms : List BoundMethod) → all_faults ds ms ≡ [] → IsReady (types_in ds) ms }
+{
+    set_faults::laws::faultless_sets_are_lawful();
+    set_faults::laws::faultless_rules_have_templates();
+    linked_types::laws::linkable_types_are_linked();
+    linked_types::laws::reached_messages_are_linked();
+}
+
+/// What is linked of a set without faults is there, and is one API.
+pub fn faultless_sets_have_one_api()
+    ensures there { (set : FileSet) → faults set ≡ [] → (api : Api) × IsSetApi set api }
+    ensures one { (set : FileSet) (a b : Api) → IsSetApi set a → IsSetApi set b → a ≡ b }
+{
+    set_faults::laws::faultless_sets_are_lawful();
+    faultless_sets_are_ready();
+    linked_bindings::laws::faultless_rules_are_linked();
+}
+
+/// What is linked of a set is a linked API.
 pub fn what_is_linked_of_a_set_is_linked()
     ensures { (set : FileSet) (api : Api) → IsLinkOf set (Ok api) → IsLinked api }
 {
-    what_is_linked_is_sound();
-    descriptor_pool::laws::what_is_reached_is_closed();
-    linked_types::laws::reached_messages_are_linked();
+    set_faults::laws::faultless_sets_are_lawful();
+    linked_types::laws::what_is_linked_is_sound();
     linked_types::laws::linked_names_are_apart();
-    http_rules::laws::named_methods_are_tokens();
+    linked_types::laws::reached_messages_are_linked();
+    linked_bindings::laws::linked_rules_are_bindings();
+    http_rules::laws::routes_apart_repeat_none();
 }
 
-/// A text is a template of the form with one name at most.
-pub fn a_text_has_one_name()
-    ensures { (text : List ℕ) (t u : Template) (a b : List ℕ) → IsTemplateOf text t a → IsTemplateOf text u b → a ≡ b }
+/// Ids find names: in what is linked of a set each message, enum and field has the name that is declared, each
+/// field of a message or enum type the id of the type that it names, and each method the ids of the messages
+/// that it names.
+pub fn ids_find_names()
+    ensures { (set : FileSet) (api : Api) → IsSetApi set api → HasDeclaredNames set api }
 {
-    http_rules::laws::one_meaning();
+    linked_types::laws::ids_find_names();
 }

@@ -1,15 +1,16 @@
 //! Links a descriptor set (descriptor.proto, google/api/http.proto) to types, methods and bindings.
 //!
-//! A set is judged whole by `set_faults`, and its first fault is answered. So far a set without a fault is
-//! linked where it has one binding, a GET of a template with one variable. Begin with `link`.
+//! `set_faults` judges what a set declares, `linked_types` links its types, `linked_bindings` its rules; here they
+//! are put together, and bindings are compared as routes. A set is linked exactly where it has no fault, and
+//! else its first one is answered. Begin with `link`.
 #![tactic(auto)]
 
-mod api;
 pub mod laws;
 mod linker;
-mod served_methods;
-mod templates;
+mod methods;
+mod routes;
+mod rules;
 
-pub use api::{Api, MethodInfo};
+pub use linked_api::{Api, MethodInfo};
 pub use linker::link;
 pub use set_faults::{LinkFault, LinkKind};

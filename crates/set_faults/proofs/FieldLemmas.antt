@@ -18,7 +18,7 @@ use Rattle.set_faults.specs.KeySteps.{keys_of}
 use Rattle.set_faults.specs.LinkFaults.{IsFirst}
 use Rattle.set_faults.specs.MessageFaults.{field_faults, fields_faults, json_faults, key_fault}
 use Rattle.set_faults.specs.declared.fault.LinkFault.{LinkFault}
-use Rattle.set_faults.proofs.FirstFaults.{first_more}
+use Rattle.set_faults.proofs.Theorems.{first_more}
 
 -- after a number is put into a set, the set has that number and what it had
 pub numbers_more : (s n : BTreeSet ℤ) (k : ℤ) (ks : List ℤ) → sorted.Updates int_cmp s n k true → ((q : ℤ) → sorted.contains int_cmp s q ≡ list_any (int_eq q) ks)

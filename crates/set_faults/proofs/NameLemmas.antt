@@ -16,7 +16,7 @@ seen_name name FileOf = refl
 seen_name name (MessageOf f m) = refl
 seen_name name (EnumOf e) = refl
 seen_name name ServiceOf = refl
-seen_name name ExtensionOf = refl
+seen_name name (ExtensionOf f) = refl
 
 none : (before : List Declaration) → list_any (λ (e : Declaration). false) before ≡ false
 none [] = refl

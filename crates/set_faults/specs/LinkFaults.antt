@@ -50,7 +50,6 @@ kind_text kinds.PathField = codes "PathField"
 kind_text kinds.BodyField = codes "BodyField"
 kind_text kinds.ResponseField = codes "ResponseField"
 kind_text kinds.SameRoute = codes "SameRoute"
-kind_text kinds.NotBuilt = codes "NotBuilt"
 
 -- a second name behind a space, where there is one
 abbrev pub second_text : List ℕ → List ℕ

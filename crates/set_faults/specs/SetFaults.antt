@@ -11,13 +11,13 @@ use Rattle.descriptor_pool.specs.ReachableTypes.{reachable}
 use Rattle.descriptor_pool.specs.SetMethods.{BoundMethod, bound_methods}
 use Rattle.set_faults.specs.declared.fault.LinkFault.{LinkFault}
 
--- the faults of methods, and of the messages that they reach
+-- that no method has an annotation; the faults of methods, and then of the messages that they reach
 abbrev pub reaching_faults : SetTypes → List BoundMethod → List LinkFault
-reaching_faults types ms = methods_faults types ms ++ reached_faults types (reachable types ms)
+reaching_faults types ms = no_route ms ++ (methods_faults types ms ++ reached_faults types (reachable types ms))
 
 -- the faults of declarations with methods
 abbrev pub all_faults : List Declaration → List BoundMethod → List LinkFault
-all_faults ds ms = too_many ds ms ++ (double_names ds ++ (no_route ms ++ reaching_faults (types_in ds) ms))
+all_faults ds ms = too_many ds ms ++ (double_names ds ++ reaching_faults (types_in ds) ms)
 
 -- the faults of a set
 abbrev pub faults : FileSet → List LinkFault

@@ -36,9 +36,10 @@ fn types_len(declarations: &[Declaration<'_>]) -> usize
     declarations.iter().filter(|d| d.is_type()).count()
 }
 
-/// Refuses a set with too many messages and enums, bindings or HTTP methods.
-#[tactic(auto, using(crate::proofs::FirstFaults::first_faults))]
-pub(crate) fn check_counts(
+/// Refuses a set with too many messages and enums, bindings or HTTP methods. Nothing is looked up by
+/// its name.
+#[tactic(auto, using(crate::proofs::Theorems::first_faults))]
+pub fn check_size(
     alloc: Global,
     declarations: &[Declaration<'_>],
     methods: &[BoundMethod<'_>],

@@ -25,7 +25,8 @@ pub enum LinkKind {
     NoPattern,
     /// A custom kind is neither `*` nor a token of at most 32 bytes, or is HEAD or CONNECT.
     BadMethod,
-    /// A path template is none.
+    /// The text of a path template is none: the offset of its fault. Or it is one of over 64 segments
+    /// or over 16 variables: `many`.
     TemplateAt,
     /// The file's syntax is proto2.
     Proto2,
@@ -49,16 +50,17 @@ pub enum LinkKind {
     BadEnum,
     /// One name or JSON name belongs to two fields.
     SameJsonName,
-    /// A variable's path does not end at a single scalar field of the input.
+    /// A variable's path names no field of the input, passes through anything but a plain singular
+    /// message, ends at no leaf or at a repeated or map field, or is equal to or a prefix of another
+    /// variable's path.
     PathField,
-    /// The body is no field of the input.
+    /// The body is not empty, not `*`, and no field name of the input.
     BodyField,
-    /// The response body is no field of the output.
+    /// The response body is not empty, and no field name of the output.
     ResponseField,
-    /// Two bindings are one route.
+    /// Two bindings have one HTTP method, and templates with equal segments and verbs: the later one is
+    /// the first that repeats an earlier one, and it is told behind the earliest such one.
     SameRoute,
-    /// The set has a form that is not linked yet.
-    NotBuilt,
 }
 
 impl LinkKind {
@@ -90,7 +92,6 @@ impl LinkKind {
             LinkKind::BodyField => "BodyField",
             LinkKind::ResponseField => "ResponseField",
             LinkKind::SameRoute => "SameRoute",
-            LinkKind::NotBuilt => "NotBuilt",
         }
     }
 }
@@ -176,8 +177,8 @@ pub fn fault_at(alloc: Global, kind: LinkKind, name: &str, second: &str) -> Link
     }
 }
 
-/// Refuses with a fault where something holds.
-pub(crate) fn refuse_if(
+/// Refuses with a fault of this kind and these names where something holds.
+pub fn refuse_if(
     alloc: Global,
     holds: bool,
     kind: LinkKind,

@@ -1,13 +1,14 @@
 //! Faults of the fields of messages that methods reach.
-ghost use Rattle.std.specs.Prelude.{◌≡◌, [], IfOk};
+ghost use Rattle.std.specs.Prelude.{◌≡◌, []};
 ghost use Rattle.std.specs.List.{list_any};
 ghost use Rattle.set_faults.specs.LinkFaults.{IsFirstOf};
-ghost use Rattle.set_faults.specs.MessageFaults.{enum_faults, enum_of, enum_type_faults, field_faults, field_name, fields_faults, has_lawful_entry, is_entry_field, is_entry_key, is_entry_value, is_field_number, is_key_type, is_lawful_entry, is_lawful_field, is_lawful_label, is_oneof_index, is_oneof_or_optional, is_type_number, type_faults};
+ghost use Rattle.set_faults.specs.ToldNames.{told};
+ghost use Rattle.set_faults.specs.MessageFaults.{enum_faults, enum_of, enum_type_faults, field_faults, fields_faults, has_lawful_entry, is_entry_field, is_entry_key, is_entry_value, is_field_number, is_key_type, is_lawful_entry, is_lawful_field, is_lawful_label, is_oneof_index, is_oneof_or_optional, is_type_number, type_faults};
 
-use crate::fault::{LinkFault, LinkKind, fault_at, refuse_if};
+use crate::fault::{LinkFault, LinkKind};
 use crate::judged_types::JudgedTypes;
-use base::{NoMemory, Text};
-use descriptor_pool::{DeclaredMessage, SetTypes, is_repeated};
+use crate::told_name::{ToldName, fault_of, refuse_where};
+use descriptor_pool::{DeclaredMessage, MethodPath, SetTypes, is_repeated};
 use descriptors::FieldInfo;
 use descriptors::descriptor_numbers::{
     LABEL_OPTIONAL, TYPE_DOUBLE, TYPE_ENUM, TYPE_FLOAT, TYPE_GROUP, TYPE_MESSAGE,
@@ -107,7 +108,7 @@ fn is_lawful_entry(message: &DeclaredMessage<'_>) -> bool
 }
 
 /// True where the entry of a field may be, if the field is a map.
-fn has_lawful_entry(types: &SetTypes<'_>, field: &FieldInfo) -> bool
+fn has_lawful_entry<'a>(types: &SetTypes<'a>, field: &'a FieldInfo) -> bool
     ensures { result ≡ has_lawful_entry types.now field.now }
 {
     match types.map_entry(field) {
@@ -117,11 +118,11 @@ fn has_lawful_entry(types: &SetTypes<'_>, field: &FieldInfo) -> bool
 }
 
 /// True where a field may be, if its number did not come before.
-fn is_lawful_field(
-    types: &SetTypes<'_>,
-    message: &DeclaredMessage<'_>,
+fn is_lawful_field<'a>(
+    types: &SetTypes<'a>,
+    message: &DeclaredMessage<'a>,
     came_before: bool,
-    field: &FieldInfo,
+    field: &'a FieldInfo,
 ) -> bool
     ensures { result ≡ is_lawful_field types.now message.now came_before field.now }
 {
@@ -133,51 +134,41 @@ fn is_lawful_field(
         && has_lawful_entry(types, field)
 }
 
-/// The name of a field: the message's full name, a dot and the field's name.
-fn field_name(
-    alloc: Global,
-    message: &DeclaredMessage<'_>,
-    field: &FieldInfo,
-) -> Result<Text, NoMemory>
-    ensures { IfOk result (λ name. name ≡ field_name message.now field.now) }
-{
-    let mut name = String::new(alloc);
-    name.push_str(message.name)?;
-    name.push_str(".")?;
-    name.push_str(field.name.as_str())?;
-    Ok(Text::from_string(name))
-}
-
 /// Refuses an enum that is not declared, is NullValue, or may not be.
-#[tactic(auto, using(crate::proofs::FirstFaults::first_faults))]
-fn check_enum(
+#[tactic(auto, using(crate::proofs::Theorems::first_faults))]
+fn check_enum<'a>(
     alloc: Global,
-    types: &JudgedTypes<'_, '_>,
-    name: &str,
-    path: &str,
-    type_name: &str,
+    types: &JudgedTypes<'a, '_>,
+    name: ToldName<'_>,
+    path: &MethodPath<'_>,
+    type_name: &'a str,
 ) -> Result<(), LinkFault>
-    ensures { IsFirstOf result (enum_faults name.now path.now type_name.now (enum_of types.now type_name.now)) }
+    ensures { IsFirstOf result
+        (enum_faults (told name.entry) path.now type_name.now (enum_of types.now type_name.now)) }
 {
     match types.enum_of(type_name) {
         Some((found, lawful)) => {
-            let null = found.name == "google.protobuf.NullValue";
-            refuse_if(alloc, null, LinkKind::StructType, name, path)?;
-            refuse_if(alloc, !lawful, LinkKind::BadEnum, found.name, "")
+            let null = found.name.is("google.protobuf.NullValue");
+            let (through, own) = (ToldName::Path(path), ToldName::Full(found.name));
+            refuse_where(alloc, null, LinkKind::StructType, name, through)?;
+            refuse_where(alloc, !lawful, LinkKind::BadEnum, own, ToldName::Nothing)
         }
-        None => Err(fault_at(alloc, LinkKind::UnknownType, name, type_name)),
+        None => {
+            let unknown = ToldName::Plain(type_name);
+            Err(fault_of(alloc, LinkKind::UnknownType, name, unknown))
+        }
     }
 }
 
 /// Refuses an enum, where the type is one.
-fn check_enum_type(
+fn check_enum_type<'a>(
     alloc: Global,
-    types: &JudgedTypes<'_, '_>,
-    name: &str,
-    path: &str,
-    field: &FieldInfo,
+    types: &JudgedTypes<'a, '_>,
+    name: ToldName<'_>,
+    path: &MethodPath<'_>,
+    field: &'a FieldInfo,
 ) -> Result<(), LinkFault>
-    ensures { IsFirstOf result (enum_type_faults types.now name.now path.now field.now) }
+    ensures { IsFirstOf result (enum_type_faults types.now (told name.entry) path.now field.now) }
 {
     if field.type_number == TYPE_ENUM {
         return check_enum(alloc, types, name, path, field.type_name.as_str());
@@ -186,57 +177,53 @@ fn check_enum_type(
 }
 
 /// Refuses a type that is not served, or that names nothing of the set.
-#[tactic(auto, using(crate::proofs::FirstFaults::first_faults))]
-fn check_type(
+#[tactic(auto, using(crate::proofs::Theorems::first_faults))]
+fn check_type<'a>(
     alloc: Global,
-    types: &JudgedTypes<'_, '_>,
-    name: &str,
-    path: &str,
-    field: &FieldInfo,
+    types: &JudgedTypes<'a, '_>,
+    name: ToldName<'_>,
+    path: &MethodPath<'_>,
+    field: &'a FieldInfo,
 ) -> Result<(), LinkFault>
-    ensures { IsFirstOf result (type_faults types.now name.now path.now field.now) }
+    ensures { IsFirstOf result (type_faults types.now (told name.entry) path.now field.now) }
 {
     let type_name = field.type_name.as_str();
     let number = field.type_number;
+    let group = number == TYPE_GROUP;
+    let float = number == TYPE_DOUBLE || number == TYPE_FLOAT;
     let unknown = number == TYPE_MESSAGE && types.declared().message_named(type_name).is_none();
-    refuse_if(alloc, number == TYPE_GROUP, LinkKind::Group, name, "")?;
-    refuse_if(
-        alloc,
-        number == TYPE_DOUBLE || number == TYPE_FLOAT,
-        LinkKind::Float,
-        name,
-        path,
-    )?;
-    refuse_if(alloc, unknown, LinkKind::UnknownType, name, type_name)?;
+    refuse_where(alloc, group, LinkKind::Group, name, ToldName::Nothing)?;
+    refuse_where(alloc, float, LinkKind::Float, name, ToldName::Path(path))?;
+    let named = ToldName::Plain(type_name);
+    refuse_where(alloc, unknown, LinkKind::UnknownType, name, named)?;
     check_enum_type(alloc, types, name, path, field)
 }
 
 /// Refuses a fault of a field.
-#[tactic(auto, using(crate::proofs::FirstFaults::first_faults))]
-fn check_field(
+#[tactic(auto, using(crate::proofs::Theorems::first_faults))]
+fn check_field<'a>(
     alloc: Global,
-    types: &JudgedTypes<'_, '_>,
-    path: &str,
-    message: &DeclaredMessage<'_>,
+    types: &JudgedTypes<'a, '_>,
+    path: &MethodPath<'_>,
+    message: &DeclaredMessage<'a>,
     came_before: bool,
-    field: &FieldInfo,
+    field: &'a FieldInfo,
 ) -> Result<(), LinkFault>
     ensures { IsFirstOf result (field_faults types.now path.now message.now came_before field.now) }
 {
-    let name = field_name(alloc, message, field)?;
+    let name = ToldName::Field(message.name, field.name.as_str());
     let lawful = is_lawful_field(types.declared(), message, came_before, field);
-    refuse_if(alloc, !lawful, LinkKind::BadField, name.as_str(), "")?;
-    let value = (&*types).value_field(field);
-    check_type(alloc, types, name.as_str(), path, value)
+    refuse_where(alloc, !lawful, LinkKind::BadField, name, ToldName::Nothing)?;
+    check_type(alloc, types, name, path, types.value_field(field))
 }
 
 /// Refuses a fault of the fields of a message, in order.
-#[tactic(auto, using(crate::proofs::FirstFaults::first_faults))]
-pub(crate) fn check_fields(
+#[tactic(auto, using(crate::proofs::Theorems::first_faults))]
+pub(crate) fn check_fields<'a>(
     alloc: Global,
-    types: &JudgedTypes<'_, '_>,
-    path: &str,
-    message: &DeclaredMessage<'_>,
+    types: &JudgedTypes<'a, '_>,
+    path: &MethodPath<'_>,
+    message: &DeclaredMessage<'a>,
 ) -> Result<(), LinkFault>
     ensures { IsFirstOf result (fields_faults types.now path.now message.now [] message.now.fields) }
 {

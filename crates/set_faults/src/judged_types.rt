@@ -62,7 +62,7 @@ impl<'a, 'b> JudgedTypes<'a, 'b> {
     }
 
     /// The field whose type one value of a field has.
-    pub(crate) fn value_field<'c>(&'c self, field: &'c FieldInfo) -> &'c FieldInfo
+    pub(crate) fn value_field(&self, field: &'a FieldInfo) -> &'a FieldInfo
         ensures { result.now ≡ value_field self.now field.now }
     {
         self.types.value_field(field)
@@ -80,7 +80,7 @@ impl<'a, 'b> JudgedTypes<'a, 'b> {
     }
 
     /// The enum that a type name names, and whether it may be.
-    pub(crate) fn enum_of(&self, type_name: &str) -> Option<(&DeclaredEnum<'a>, bool)>
+    pub(crate) fn enum_of(&self, type_name: &'a str) -> Option<(&DeclaredEnum<'a>, bool)>
         ensures found { option_map (λ x. x.0.now) result ≡ enum_of self.now type_name.now }
         ensures lawful { IfSome result (λ x. x.1 ≡ is_lawful_enum x.0.now.values) }
     {

@@ -6,17 +6,18 @@ ghost use Rattle.set_faults.specs.LinkFaults.{IsFirstOf, fault_if};
 ghost use Rattle.set_faults.specs.MessageFaults.{json_faults};
 ghost use Rattle.descriptor_pool.specs.TextSets.{has};
 
-use crate::fault::{LinkFault, LinkKind, refuse_if};
+use crate::fault::{LinkFault, LinkKind};
+use crate::told_name::{ToldName, refuse_where};
 use base::{NoMemory, Text};
-use descriptor_pool::{DeclaredMessage, json_names_of};
+use descriptor_pool::{DeclaredMessage, FullName, json_names_of};
 use std::alloc::Global;
 use std::collections::BTreeSet;
 
 /// Refuses a name or a JSON name that is among keys that came before.
-#[tactic(auto, using(crate::proofs::FirstFaults::first_faults))]
+#[tactic(auto, using(crate::proofs::Theorems::first_faults))]
 fn check_key_pair(
     alloc: Global,
-    message: &str,
+    message: &FullName<'_>,
     before: &BTreeSet<&[u8]>,
     name: &str,
     json: &str,
@@ -25,8 +26,9 @@ fn check_key_pair(
 {
     let name_came = before.contains(name.as_bytes());
     let json_came = before.contains(json.as_bytes());
-    refuse_if(alloc, name_came, LinkKind::SameJsonName, message, name)?;
-    refuse_if(alloc, json_came, LinkKind::SameJsonName, message, json)
+    let (kind, full) = (LinkKind::SameJsonName, ToldName::Full(message));
+    refuse_where(alloc, name_came, kind, full, ToldName::Plain(name))?;
+    refuse_where(alloc, json_came, kind, full, ToldName::Plain(json))
 }
 
 /// Adds a key.
@@ -38,7 +40,7 @@ fn add_key<'a>(keys: &mut BTreeSet<&'a [u8]>, key: &'a [u8]) -> Result<(), NoMem
 }
 
 /// Refuses the first name that is one of an earlier field, of fields with these JSON names.
-#[tactic(auto, using(crate::proofs::FirstFaults::first_faults))]
+#[tactic(auto, using(crate::proofs::Theorems::first_faults))]
 fn check_keys_with(
     alloc: Global,
     message: &DeclaredMessage<'_>,

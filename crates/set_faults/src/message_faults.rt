@@ -4,11 +4,12 @@ ghost use Rattle.std.specs.List.{flat_map};
 ghost use Rattle.set_faults.specs.LinkFaults.{IsFirstOf};
 ghost use Rattle.set_faults.specs.MessageFaults.{has_extensions, head_faults, is_proto2, is_struct, joined_faults, message_faults, reached_faults};
 
-use crate::fault::{LinkFault, LinkKind, refuse_if};
+use crate::fault::{LinkFault, LinkKind};
 use crate::field_faults::check_fields;
 use crate::judged_types::{JudgedTypes, judged_types};
 use crate::key_faults::check_keys;
-use descriptor_pool::{DeclaredMessage, Joined, SetTypes, are_published};
+use crate::told_name::{ToldName, refuse_where};
+use descriptor_pool::{DeclaredMessage, FullName, Joined, MethodPath, SetTypes, are_published};
 use std::alloc::Global;
 
 /// True where a syntax is proto2: absent, empty or named.
@@ -19,16 +20,16 @@ fn is_proto2(syntax: &str) -> bool
 }
 
 /// True for the messages of struct.proto.
-fn is_struct(name: &str) -> bool
+fn is_struct(name: &FullName<'_>) -> bool
     ensures { result ≡ is_struct name.now }
 {
-    name == "google.protobuf.Struct"
-        || name == "google.protobuf.Value"
-        || name == "google.protobuf.ListValue"
+    name.is("google.protobuf.Struct")
+        || name.is("google.protobuf.Value")
+        || name.is("google.protobuf.ListValue")
 }
 
 /// True where the set extends a message, or it is a message set.
-fn has_extensions(types: &SetTypes<'_>, message: &DeclaredMessage<'_>) -> bool
+fn has_extensions<'a>(types: &SetTypes<'a>, message: &DeclaredMessage<'a>) -> bool
     ensures { result ≡ has_extensions types.now message.now }
 {
     types.is_extended(message.name) || message.info.message_set_wire_format
@@ -36,47 +37,39 @@ fn has_extensions(types: &SetTypes<'_>, message: &DeclaredMessage<'_>) -> bool
 
 /// Refuses a message of another syntax than proto3, of a type that is never served, that is
 /// extended, or that is no well-known type but has the name of one.
-#[tactic(auto, using(crate::proofs::FirstFaults::first_faults))]
-fn check_head(
+#[tactic(auto, using(crate::proofs::Theorems::first_faults))]
+fn check_head<'a>(
     alloc: Global,
-    types: &SetTypes<'_>,
-    path: &str,
-    message: &DeclaredMessage<'_>,
+    types: &SetTypes<'a>,
+    path: &MethodPath<'_>,
+    message: &DeclaredMessage<'a>,
 ) -> Result<(), LinkFault>
     ensures { IsFirstOf result (head_faults types.now path.now message.now) }
 {
-    let name = message.name;
+    let full = message.name;
     let syntax = message.file.syntax.as_str();
+    let (name, through) = (ToldName::Full(full), ToldName::Path(path));
+    let none = ToldName::Nothing;
     let old = is_proto2(syntax);
+    let other = !(old || syntax == "proto3");
+    let any = full.is("google.protobuf.Any");
     let extended = has_extensions(types, message);
-    let published = are_published(name, message.info.field.as_slice());
-    refuse_if(alloc, old, LinkKind::Proto2, name, "")?;
-    refuse_if(
-        alloc,
-        !(old || syntax == "proto3"),
-        LinkKind::Edition,
-        name,
-        "",
-    )?;
-    refuse_if(
-        alloc,
-        name == "google.protobuf.Any",
-        LinkKind::AnyType,
-        name,
-        path,
-    )?;
-    refuse_if(alloc, is_struct(name), LinkKind::StructType, name, path)?;
-    refuse_if(alloc, extended, LinkKind::Extension, name, "")?;
-    refuse_if(alloc, !published, LinkKind::KnownShape, name, "")
+    let published = are_published(full, message.info.field.as_slice());
+    refuse_where(alloc, old, LinkKind::Proto2, name, none)?;
+    refuse_where(alloc, other, LinkKind::Edition, name, none)?;
+    refuse_where(alloc, any, LinkKind::AnyType, name, through)?;
+    refuse_where(alloc, is_struct(full), LinkKind::StructType, name, through)?;
+    refuse_where(alloc, extended, LinkKind::Extension, name, none)?;
+    refuse_where(alloc, !published, LinkKind::KnownShape, name, none)
 }
 
 /// Refuses a fault of a message: of itself, then of its fields, then of their names.
-#[tactic(auto, using(crate::proofs::FirstFaults::first_faults))]
-fn check_message(
+#[tactic(auto, using(crate::proofs::Theorems::first_faults))]
+fn check_message<'a>(
     alloc: Global,
-    types: &JudgedTypes<'_, '_>,
-    path: &str,
-    message: &DeclaredMessage<'_>,
+    types: &JudgedTypes<'a, '_>,
+    path: &MethodPath<'_>,
+    message: &DeclaredMessage<'a>,
 ) -> Result<(), LinkFault>
     ensures { IsFirstOf result (message_faults types.now path.now message.now) }
 {
@@ -86,25 +79,25 @@ fn check_message(
 }
 
 /// Refuses a fault of a message that is reached.
-fn check_joined(
+fn check_joined<'a>(
     alloc: Global,
-    types: &JudgedTypes<'_, '_>,
-    joined: &Joined<'_>,
+    types: &JudgedTypes<'a, '_>,
+    joined: &Joined<'a>,
 ) -> Result<(), LinkFault>
     ensures { IsFirstOf result (joined_faults types.now joined.now) }
 {
     match types.declared().messages().get(joined.message) {
-        Some(message) => check_message(alloc, types, joined.path, message),
+        Some(message) => check_message(alloc, types, &joined.path, message),
         None => Ok(()),
     }
 }
 
 /// Refuses a fault of messages that are reached, in order.
-#[tactic(auto, using(crate::proofs::FirstFaults::first_faults))]
-fn check_each(
+#[tactic(auto, using(crate::proofs::Theorems::first_faults))]
+fn check_each<'a>(
     alloc: Global,
-    types: &JudgedTypes<'_, '_>,
-    reached: &[Joined<'_>],
+    types: &JudgedTypes<'a, '_>,
+    reached: &[Joined<'a>],
 ) -> Result<(), LinkFault>
     ensures { IsFirstOf result (reached_faults types.now reached.now) }
 {
@@ -115,10 +108,10 @@ fn check_each(
 }
 
 /// Refuses a fault of the messages that are reached, in order.
-pub(crate) fn check_reached(
+pub(crate) fn check_reached<'a>(
     alloc: Global,
-    types: &SetTypes<'_>,
-    reached: &[Joined<'_>],
+    types: &SetTypes<'a>,
+    reached: &[Joined<'a>],
 ) -> Result<(), LinkFault>
     ensures { IsFirstOf result (reached_faults types.now reached.now) }
 {

@@ -4,19 +4,20 @@
 //! the digits' bytes N times, each time with its number in four decimal digits behind it.
 //!
 //! - `read` prints `read` or the first fault; `files`, `messages`, `fields` and `services` what is read.
-//! - `link` prints `ok` or the first fault of linking; `shapes` the fields of the first message type, and the
-//!   numbers of messages, enums, methods and bindings.
+//! - `link` prints `ok` or the first fault of linking; `shapes` all types, methods and bindings that are linked.
 //! - `kinds`, `set_faults`, `link_fault NAME SECOND` and `no_memory` print texts.
 //!
 //! The rows are made by scripts/link_sets.py.
 #![tactic(auto)]
 
+mod bindings;
 mod contents;
 mod linked;
 mod messages;
 mod pieces;
 mod services;
 mod texts;
+mod types;
 
 use contents::{read_answer, told_set};
 use linked::{link_answer, shape_answer};

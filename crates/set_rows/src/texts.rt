@@ -9,7 +9,7 @@ use std::io;
 use wire_format::{WireFault, WireKind};
 
 /// All kinds, in the order in which they are looked for.
-const KINDS: [LinkKind; 24] = [
+const KINDS: [LinkKind; 23] = [
     LinkKind::TooMany,
     LinkKind::DoubleName,
     LinkKind::NoRoute,
@@ -33,7 +33,6 @@ const KINDS: [LinkKind; 24] = [
     LinkKind::BodyField,
     LinkKind::ResponseField,
     LinkKind::SameRoute,
-    LinkKind::NotBuilt,
 ];
 
 /// The names of all kinds.

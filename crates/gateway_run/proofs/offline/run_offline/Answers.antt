@@ -1,4 +1,4 @@
-use Rattle.gateway_run.proofs.BindLemmas.{told_line}
+use Rattle.gateway_run.proofs.OutputLemmas.{told_line}
 use Rattle.gateway_run.proofs.offline.run_offline.Goals as goal
 
 pub returns-clause-ran : goal.returns-clause-ran

@@ -1,6 +1,6 @@
 use Rattle.std.proofs.lemmas.Result.{err_from_is_err_and}
 use Rattle.set_faults.specs.MessageFaults.{joined_faults}
-use Rattle.set_faults.proofs.FirstFaults.{first_of_item}
+use Rattle.set_faults.proofs.Theorems.{first_of_item}
 use Rattle.set_faults.proofs.message_faults.check_each.Goals as goal
 
 pub returns-in_err-check_joined : goal.returns-in_err-check_joined

@@ -1,0 +1,16 @@
+use Rattle.linked_api.proofs.SmallApiFacts.{one_linked, none_linked, head_is_none, call_is_none, number_is_none, fewer_is_none, more_is_none, response_is_none, twice_is_none, names_is_none}
+use Rattle.linked_api.proofs.examples.linked_examples.Goals as goal
+
+pub returns : goal.returns
+returns c = record {
+  one = one_linked c.named_methods_are_kinds.ensures.get;
+  none = none_linked;
+  head = head_is_none;
+  call = call_is_none;
+  number = number_is_none;
+  fewer = fewer_is_none;
+  more = more_is_none;
+  response = response_is_none;
+  twice = twice_is_none;
+  names = names_is_none;
+}

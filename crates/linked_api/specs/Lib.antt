@@ -1,0 +1,11 @@
+pub use Rattle.http_rules.specs.Routes
+pub use Rattle.http_rules.specs.Template
+pub use Rattle.http_rules.specs.Tokens
+pub use Rattle.message_types.specs.Types
+pub use Rattle.schema.specs.Apart
+pub use Rattle.schema.specs.Soundness
+pub mod FieldPaths
+pub mod LinkedApi
+pub mod NumberPaths
+pub mod LinkedExamples
+pub mod SmallApi

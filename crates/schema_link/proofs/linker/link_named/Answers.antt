@@ -1,0 +1,29 @@
+use Rattle.std.proofs.Common.{◌<◌, ◌≡◌, ◌^◌, ◌∙◌, [], length, subst, sym}
+use Rattle.descriptor_pool.specs.ReachableTypes.{reachable}
+use Rattle.schema_link.specs.LinkSteps.{IsReady}
+use Rattle.set_faults.specs.SetFaults.{reaching_faults}
+use Rattle.schema_link.proofs.SetAnswers.{few_reached, rest_is, set_answer}
+use Rattle.schema_link.proofs.linker.link_named.Goals as goal
+
+pub link_types-requires-clause-few : goal.link_types-requires-clause-few
+link_types-requires-clause-few c =
+    let ds = c.as_slice-declarations.result.now in
+    let ms = c.as_slice-methods.result.now in
+    subst (λ t. length (reachable t ms) < 2 ^ 32) (sym c.in_ok-types.ensures)
+    (few_reached ds ms c.in_ok-check_size.ensures)
+
+pub link_types-requires-clause-ready : goal.link_types-requires-clause-ready
+link_types-requires-clause-ready c = λ none.
+    let ds = c.as_slice-declarations.result.now in
+    let ms = c.as_slice-methods.result.now in
+    let own = subst (λ t. reaching_faults t ms ≡ []) c.in_ok-types.ensures none in
+    subst (λ t. IsReady t ms) (sym c.in_ok-types.ensures)
+    (c.faultless_sets_are_ready.ensures ds ms
+    (rest_is ds ms c.in_ok-check_size.ensures c.in_ok-check_names.ensures ∙ own))
+
+pub returns : goal.returns
+returns c =
+    set_answer c.args.set.now c.as_slice-declarations.result.now c.as_slice-methods.result.now c.in_ok-types.types c.link_types.result
+    (c.as_slice-declarations.ensures.value ∙ c.in_ok-all_declarations.ensures)
+    (c.as_slice-methods.ensures.value ∙ c.in_ok-all_methods.ensures)
+    c.in_ok-types.ensures c.in_ok-check_size.ensures c.in_ok-check_names.ensures c.link_types.ensures.first c.link_types.ensures.api
