@@ -4,6 +4,7 @@ pub mod DeclaredLemmas
 pub mod NameLemmas
 pub mod TextSetLemmas
 pub mod Theorems
+pub mod TypeCountLemmas
 -- The laws of what is reached: whole, closed, and the least.
 pub mod QueueLemmas
 pub mod QueueLaws

@@ -1,7 +1,7 @@
 //! What a set declares, with full names (descriptor.proto).
 ghost use Rattle.std.specs.Prelude.{◌≡◌, ◌++◌, map, IfOk, OnOk};
 ghost use Rattle.std.specs.List.{flat_map};
-ghost use Rattle.descriptor_pool.specs.DeclaredNames.{declarations, declared_in, enums_in, extensions_in, file_declarations, messages_in, services_in, is_type, name_of};
+ghost use Rattle.descriptor_pool.specs.DeclaredNames.{declarations, declared_in, enums_in, extensions_in, file_declarations, messages_in, services_in, name_of};
 
 use crate::full_name::{FullName, Names};
 use base::NoMemory;
@@ -50,17 +50,6 @@ impl<'a> Declaration<'a> {
         ensures { result.now ≡ name_of self.now }
     {
         self.name
-    }
-
-    /// True for a message and for an enum.
-    pub fn is_type(&self) -> bool
-        ensures { result ≡ is_type self.now }
-    {
-        match self.declared {
-            Declared::Message(_, _) => true,
-            Declared::Enum(_) => true,
-            _ => false,
-        }
     }
 }
 

@@ -1,7 +1,8 @@
 //! The declarations of a descriptor set by their full names (descriptor.proto): its messages and
 //! enums, the methods that are bound to HTTP rules, and the messages that these reach.
 //!
-//! Begin with `Names`, `declarations_of` and `types_of`.
+//! Begin with `has_types`, which counts before anything is named, and then `Names`, `declarations_of`
+//! and `types_of`.
 #![tactic(auto)]
 
 mod declared_names;
@@ -15,6 +16,7 @@ mod name_index;
 mod name_order;
 mod queue;
 mod set_methods;
+mod type_count;
 mod type_lists;
 mod well_known;
 
@@ -27,4 +29,5 @@ pub use method_path::MethodPath;
 pub use name_index::index_of;
 pub use queue::{Joined, reachable};
 pub use set_methods::{BoundMethod, bound_methods, http_method, rule_methods, rules_of};
+pub use type_count::has_types;
 pub use well_known::{are_published, known_of};

@@ -7,6 +7,5 @@ pub mod OutputLemmas
 pub mod FrontLemmas
 -- The lines on standard error.
 pub mod LineLemmas
--- The message of a request, and the path that it comes from.
+-- The message of a request.
 pub mod MessageLemmas
-pub mod PathLemmas

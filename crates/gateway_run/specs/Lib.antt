@@ -22,7 +22,6 @@ pub mod DeclaredApi
 pub mod RouteLines
 pub mod CommandOutput
 pub mod BoundMessage
-pub mod PathPieces
 pub mod RequestMeaning
 pub mod DescriptorLines
 pub mod RefusalLines

@@ -9,6 +9,8 @@ pub mod TemplateFaultTexts
 pub mod TemplateMachine
 pub mod TemplateLimits
 pub mod TemplateReading
+pub mod TemplateOrder
+pub mod OrderExamples
 pub mod Routes
 pub mod RouteExamples
 pub mod Tokens

@@ -1,5 +1,5 @@
 -- Tokens (RFC 9110, section 5.6.2), as tests of bytes.
-use Rattle.std.specs.Prelude.{◌≡◌, ℕ, ◌&&◌, ◌||◌, Bool, true, List, codes, length, nat_le, not}
+use Rattle.std.specs.Prelude.{◌≡◌, ℕ, ◌&&◌, ◌||◌, Bool, true, false, List, [], codes, length, nat_le, not, replicate}
 use Rattle.std.specs.List.{list_any}
 use Rattle.std.specs.Char.{is_ascii_uppercase}
 use Rattle.std.specs.Str.{bytes_eq}
@@ -42,3 +42,17 @@ pub record NamedMethodsAreKinds : Type 0 where
   pub post : is_method_kind (codes "POST") ≡ true
   pub delete : is_method_kind (codes "DELETE") ≡ true
   pub patch : is_method_kind (codes "PATCH") ≡ true
+
+-- which words are methods of a binding. `**` is a token, and a method like any other; so is `head`, as methods have
+-- their case.
+pub record MethodKindExamplesHold : Type 0 where
+  pub any : is_method_kind (codes "*") ≡ true
+  pub two_stars : is_method_kind (codes "**") ≡ true
+  pub lower_case : is_method_kind (codes "head") ≡ true
+  pub longest : is_method_kind (replicate 32 65) ≡ true
+  pub too_long : is_method_kind (replicate 33 65) ≡ false
+  pub nothing : is_method_kind [] ≡ false
+  pub head : is_method_kind (codes "HEAD") ≡ false
+  pub connect : is_method_kind (codes "CONNECT") ≡ false
+  pub space : is_method_kind (codes "GET ") ≡ false
+  pub slash : is_method_kind (codes "A/B") ≡ false

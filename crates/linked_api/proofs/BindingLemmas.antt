@@ -1,6 +1,7 @@
 -- What a linked API gives of its bindings.
-use Rattle.std.proofs.Common.{◌≡◌, ℕ, List, [], ◌∷◌, Some, length, slice_get, refl, ap, subst, zero, suc}
+use Rattle.std.proofs.Common.{◌≡◌, ℕ, List, [], ◌∷◌, Some, length, slice_get, refl, sym, ap, subst, zero, suc}
 use Rattle.std.specs.List.{AllByRecursion}
+use Rattle.http_rules.specs.Routes.{AreRoutesApart, IsSameRoute}
 use Rattle.http_rules.specs.declared.template.Binding.{Binding}
 use Rattle.http_rules.specs.declared.template.Variable.{Variable}
 use Rattle.linked_api.specs.LinkedApi.{EachLeadsToLeaf, IsBindingOf, IsLinked, IsMethodOf}
@@ -60,3 +61,27 @@ linked_servable api i b linked e =
       body = is.body;
       response = is.response;
     }
+
+-- no later binding is one route with the first
+apart_first : (a b : Binding) (bs : List Binding) (i : ℕ) → AreRoutesApart (a ∷ bs) → slice_get bs i ≡ Some b
+    → IsSameRoute a b → ⊥
+apart_first a b bs i h e same = each_at (λ (c : Binding). IsSameRoute a c → ⊥) bs i b h.0 e same
+
+-- bindings that are one route stand at one index
+apart_at : (bs : List Binding) (i j : ℕ) (a b : Binding) → AreRoutesApart bs → slice_get bs i ≡ Some a
+    → slice_get bs j ≡ Some b → IsSameRoute a b → i ≡ j
+apart_at [] i j a b h e k same = absurd (cc e)
+apart_at (c ∷ bs) zero zero a b h e k same = refl
+apart_at (c ∷ bs) zero (suc j) a b h e k same =
+    let is : a ≡ c = cc e in
+    absurd (apart_first c b bs j h k (subst (λ (x : Binding). IsSameRoute x b) is same))
+apart_at (c ∷ bs) (suc i) zero a b h e k same =
+    let is : b ≡ c = cc k in
+    absurd (apart_first c a bs i h e
+    (subst (λ (x : Binding). IsSameRoute x a) is (sym same.0, (sym same.1.0, sym same.1.1))))
+apart_at (c ∷ bs) (suc i) (suc j) a b h e k same = ap (λ (n : ℕ). suc n) (apart_at bs i j a b h.1 e k same)
+
+-- so no two bindings of a linked API are one route
+pub linked_apart_at : (api : Api) (i j : ℕ) (a b : Binding) → IsLinked api → slice_get api.bindings i ≡ Some a
+    → slice_get api.bindings j ≡ Some b → IsSameRoute a b → i ≡ j
+linked_apart_at api i j a b linked e k same = apart_at api.bindings i j a b linked.routes e k same

@@ -1,15 +1,16 @@
 -- The small API is linked, and its wrong forms are not.
-use Rattle.std.proofs.Common.{◌≡◌, ◌<◌, ◌≤◌, ◌&&◌, Bool, true, false, IsSome, List, [], ◌∷◌, codes, Some, None, refl, sym, subst, arith}
+use Rattle.std.proofs.Common.{◌≡◌, ◌<◌, ◌≤◌, ◌&&◌, Bool, true, false, IsSome, List, [], ◌∷◌, codes, map, Some, None, refl, sym, subst, arith}
 use Rattle.std.specs.Set.{distinct_count}
 use Rattle.std.specs.Str.{bytes_eq}
 use Rattle.http_rules.specs.Template.{IsTemplate, segment, variable}
 use Rattle.http_rules.specs.Tokens.{is_method_kind, is_short_token}
 use Rattle.http_rules.specs.declared.template.Binding.{Binding}
+use Rattle.http_rules.specs.declared.template.Body.TheVariants.{Part}
 use Rattle.http_rules.specs.declared.template.Segment.TheVariants.{Literal}
 use Rattle.linked_api.specs.FieldPaths.{LeadsToLeaf}
 use Rattle.linked_api.specs.LinkedApi.{IsBindingOf, IsLinked}
 use Rattle.linked_api.specs.LinkedExamples.{field_of_kind, type_at}
-use Rattle.linked_api.specs.SmallApi.{item, shop, get_item, item_template, item_binding, shop_with}
+use Rattle.linked_api.specs.SmallApi.{item, item_enum, shop, get_item, item_template, item_binding, many_methods, overlapping_binding, shop_with}
 use Rattle.linked_api.specs.declared.api.MethodInfo.{MethodInfo}
 use Rattle.message_types.specs.Types.{field_in, fields_of}
 use Rattle.message_types.specs.declared.fields.Field.{Field}
@@ -148,3 +149,32 @@ twice_is_none h = h.routes.0.0 (refl, (refl, refl))
 -- one name stands once
 pub names_is_none : IsLinked (record (shop_with []) { types = record { messages = item ∷ item ∷ []; enums = [] } }) → ⊥
 names_is_none h = let wrong : true ≡ false = h.names.0.0 in absurd (cc wrong)
+
+-- no path begins another
+pub overlapping_is_none : IsLinked (shop_with (overlapping_binding ∷ [])) → ⊥
+overlapping_is_none h = let wrong : true ≡ false = h.bindings.0.apart.0.0 in absurd (cc wrong)
+
+-- the body is a field
+pub body_is_none : IsLinked (shop_with (record item_binding { body = Part 2 } ∷ [])) → ⊥
+body_is_none h =
+    let method : get_item ≡ h.bindings.0.method = cc (h.bindings.0.method_is) in
+    let field : false ≡ true =
+    subst (λ (m : MethodInfo). IsSome (field_in (fields_of shop m.input) 2)) (sym method) h.bindings.0.body in
+    absurd (cc field)
+
+-- the bindings have 65 HTTP methods
+many_are_65 : distinct_count bytes_eq (map (λ (b : Binding). b.method) many_methods) ≡ 65
+many_are_65 = refl
+
+-- and 64 are the most
+pub many_is_none : IsLinked (shop_with many_methods) → ⊥
+many_is_none h = let few = h.http_methods in let count = many_are_65 in omega (arith, few, count)
+
+-- there is one message type
+pub input_is_none : IsLinked (record (shop_with []) { methods = record get_item { input = type_at 1 } ∷ [] }) → ⊥
+input_is_none h = let wrong : 1 < 1 = h.methods.0.input in omega (arith, wrong)
+
+-- the name of an enum is that of no message
+pub enum_name_is_none
+    : IsLinked (record (shop_with []) { types = record { messages = item ∷ []; enums = item_enum ∷ [] } }) → ⊥
+enum_name_is_none h = let wrong : true ≡ false = h.names.0.0 in absurd (cc wrong)

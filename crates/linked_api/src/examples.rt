@@ -7,7 +7,7 @@ pub fn path_examples()
     ensures { PathExamplesHold }
 {}
 
-/// A small API that is linked, and eight that are not.
+/// A small API that is linked with its binding and without one, and thirteen forms of it that are not linked.
 pub fn linked_examples()
     ensures { LinkedExamplesHold }
 {

@@ -1,5 +1,6 @@
 //! Laws of paths and of linked APIs. Each is the contract of an empty function.
 ghost use Rattle.std.specs.Prelude.{◌≡◌, ℕ, List, Some, IfSome, IsSome, slice_get};
+ghost use Rattle.http_rules.specs.Routes.{IsSameRoute};
 ghost use Rattle.http_rules.specs.declared.template.Binding.{Binding};
 ghost use Rattle.linked_api.specs.FieldPaths.{LeadsToLeaf, path_numbers};
 ghost use Rattle.linked_api.specs.LinkedApi.{IsBindingOf, IsLinked, IsMethodOf};
@@ -48,4 +49,10 @@ pub fn bindings_are_servable()
         → IsLinked api → slice_get api.bindings i ≡ Some b → IsServable api b }
     ensures methods { (api : Api) (i : ℕ) (m : MethodInfo)
         → IsLinked api → slice_get api.methods i ≡ Some m → IsMethodOf api.types m }
+{}
+
+/// Of the bindings of a linked API no two are one route: a route tells its binding.
+pub fn routes_are_apart()
+    ensures { (api : Api) (i j : ℕ) (a b : Binding) → IsLinked api → slice_get api.bindings i ≡ Some a
+        → slice_get api.bindings j ≡ Some b → IsSameRoute a b → i ≡ j }
 {}

@@ -35,10 +35,11 @@ body_is false true o = refl
 body_is false false None = refl
 body_is false false (Some f) = refl
 
-body_read : (fs : List Field) (body : List ℕ) → is_some (body_of fs body) ≡ is_body fs body
+-- the test of a body is whether something is read of it
+pub body_read : (fs : List Field) (body : List ℕ) → is_some (body_of fs body) ≡ is_body fs body
 body_read fs body = body_is (length body == 0) (bytes_eq body (codes "*")) (field_named fs body)
 
--- and so is a response
+-- a response is one exactly where something is read of it
 response_is : (a : Bool) (o : Option Field)
     → is_some (cond a (Some None) (option_map (λ n. Some n) (option_map (λ (f : Field). f.number) o)))
     ≡ (a || is_some o)
@@ -46,11 +47,12 @@ response_is true o = refl
 response_is false None = refl
 response_is false (Some f) = refl
 
-response_read : (fs : List Field) (name : List ℕ) → is_some (response_of fs name) ≡ is_response fs name
+-- and so is that of a response
+pub response_read : (fs : List Field) (name : List ℕ) → is_some (response_of fs name) ≡ is_response fs name
 response_read fs name = response_is (length name == 0) (field_named fs name)
 
--- a binding is there where its parts are, and only there
-parts_there : (method : List ℕ) (call : ℕ) (t : Template) (ps : Option (List (List ℕ))) (body : Option Body)
+-- a binding is there where its parts are
+pub parts_there : (method : List ℕ) (call : ℕ) (t : Template) (ps : Option (List (List ℕ))) (body : Option Body)
     (response : Option (Option ℕ)) → IsSome ps → IsSome body → IsSome response
     → IsSome (binding_with method call t ps body response)
 parts_there method call t None body response h k l = absurd (cc h)
@@ -58,7 +60,8 @@ parts_there method call t (Some ps) None response h k l = absurd (cc k)
 parts_there method call t (Some ps) (Some body) None h k l = absurd (cc l)
 parts_there method call t (Some ps) (Some body) (Some response) h k l = refl
 
-there_parts : (method : List ℕ) (call : ℕ) (t : Template) (ps : Option (List (List ℕ))) (body : Option Body)
+-- and only there
+pub there_parts : (method : List ℕ) (call : ℕ) (t : Template) (ps : Option (List (List ℕ))) (body : Option Body)
     (response : Option (Option ℕ)) → IsSome (binding_with method call t ps body response)
     → IsSome ps × IsSome body × IsSome response
 there_parts method call t None body response h = absurd (cc h)

@@ -32,7 +32,7 @@ not_absent None h = absurd (cc h)
 not_absent (Some x) h = refl
 
 -- a list is there where its first item and the rest are, and only there
-both_there : {X : Type 0} (o : Option X) (os : Option (List X)) → IsSome o → IsSome os → IsSome (with_first o os)
+pub both_there : {X : Type 0} (o : Option X) (os : Option (List X)) → IsSome o → IsSome os → IsSome (with_first o os)
 both_there None os h k = absurd (cc h)
 both_there (Some x) None h k = absurd (cc k)
 both_there (Some x) (Some xs) h k = refl

@@ -24,6 +24,10 @@ patch_book = record {
   server_streams = false;
 }
 
+-- a method that takes and answers a book
+abbrev pub put_book : MethodInfo
+put_book = record patch_book { path = codes "/library.Library/PutBook"; input = type_at 0 }
+
 -- a variable that takes the first segment
 abbrev pub variable_of_path : List (List ℕ) → Variable
 variable_of_path path = record { path = path; from = 0; to = 1 }
@@ -63,6 +67,19 @@ pub record RuleExamplesHold : Type 0 where
   pub two : faults_with ((codes "book" ∷ codes "name" ∷ []) ∷ (codes "book" ∷ codes "title" ∷ []) ∷ []) (codes "*") []
       ≡ []
   pub nothing : faults_with [] [] [] ≡ []
+  -- a list as the body, and a map as the response: a body and a response are fields of any kind
+  pub list_and_map : binding_faults library put_book (rule_with (codes "marks") (codes "stock")) (template_with [])
+      ≡ []
+  pub list_and_map_linked
+      : linked_binding library put_book 4 (codes "PUT") (rule_with (codes "marks") (codes "stock")) (template_with [])
+      ≡ Some (record {
+        method = codes "PUT";
+        template = template_with [];
+        paths = [];
+        body = Part 4;
+        response = Some 8;
+        call = 4;
+      })
   -- a list, a map, a message that is no well-known one, and what is behind a scalar
   pub listed : faults_with ((codes "book" ∷ codes "marks" ∷ []) ∷ []) [] []
       ≡ fault_of PathField (codes "book.marks") ∷ []

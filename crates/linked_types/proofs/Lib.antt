@@ -4,6 +4,8 @@ pub mod IndexLemmas
 pub mod EachSomeLemmas
 -- The parts of what is linked.
 pub mod LinkedParts
+-- The numbers of real oneofs.
+pub mod OneofNumbers
 -- Ids find names.
 pub mod NamedTypes
 pub mod ReachedIds

@@ -1,7 +1,9 @@
 pub mod EachSome
+pub mod ExampleFields
 pub mod FoundNames
 pub mod IndexSteps
 pub mod LinkableTypes
+pub mod LinkedFieldExamples
 pub mod LinkedNames
 pub mod LinkedTypes
 pub mod RealNumbers

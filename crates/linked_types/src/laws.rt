@@ -1,14 +1,15 @@
 //! Laws of what is linked. Each is the contract of a function that calls the laws that it follows from.
-ghost use Rattle.std.specs.Prelude.{◌≡◌, List, Some, IsSome};
+ghost use Rattle.std.specs.Prelude.{◌≡◌, ◌<◌, ℕ, List, Some, IsSome};
 ghost use Rattle.std.specs.List.{AllByRecursion};
 ghost use Rattle.std.specs.Str.{bytes_eq};
 ghost use Rattle.descriptor_pool.specs.DeclaredTypes.{SetTypes};
 ghost use Rattle.descriptor_pool.specs.ReachableTypes.{Joined, reachable};
 ghost use Rattle.descriptor_pool.specs.SetMethods.{BoundMethod};
+ghost use Rattle.descriptors.specs.declared.file_set.FieldInfo.{FieldInfo};
 ghost use Rattle.linked_types.specs.FoundNames.{HasIds, IdsFindNames};
 ghost use Rattle.linked_types.specs.LinkableTypes.{AreLinkable};
 ghost use Rattle.linked_types.specs.LinkedNames.{declared_names, type_names};
-ghost use Rattle.linked_types.specs.LinkedTypes.{linked_types};
+ghost use Rattle.linked_types.specs.LinkedTypes.{linked_types, real_number};
 ghost use Rattle.message_types.specs.declared.messages.Types.{Types};
 ghost use Rattle.schema.specs.Apart.{AreApart};
 ghost use Rattle.schema.specs.Soundness.{IsSound};
@@ -49,3 +50,13 @@ pub fn linked_names_are_apart()
 {
     what_is_reached_is_closed();
 }
+
+/// The real oneofs of a message are numbered in declared order, each once, and no number is left out.
+pub fn real_oneofs_are_numbered_in_order()
+    ensures order { (fs : List FieldInfo) (i j a b : ℕ)
+        → real_number fs i ≡ Some a → real_number fs j ≡ Some b → i < j → a < b }
+    ensures once { (fs : List FieldInfo) (i j a b : ℕ)
+        → real_number fs i ≡ Some a → real_number fs j ≡ Some b → a ≡ b → i ≡ j }
+    ensures whole { (fs : List FieldInfo) (j b a : ℕ)
+        → real_number fs j ≡ Some b → a < b → (i : ℕ) × (i < j) × (real_number fs i ≡ Some a) }
+{}

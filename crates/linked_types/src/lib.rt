@@ -5,6 +5,7 @@
 //! that are declared: these are laws. Whether a set is so is not judged here. Begin with `linked_types`.
 #![tactic(auto)]
 
+pub mod examples;
 pub mod laws;
 mod linked_fields;
 mod linked_indexes;

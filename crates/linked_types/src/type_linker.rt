@@ -79,6 +79,8 @@ fn linked_message<'a>(
 {
     let syntax = declared.file.syntax.as_str();
     let fields = declared.info.field.as_slice();
+    // How many numbers of oneofs are kept at hand: what `linked_fields` answers is the same for each
+    // count, since the number of a oneof beyond it is searched in the fields.
     let oneofs = u32::try_from(declared.info.oneof_decl.len()).unwrap_or(u32::MAX);
     match linked_fields(alloc, types, messages, enums, syntax, fields, oneofs)? {
         Some(fields) => Ok(Some(MessageType {

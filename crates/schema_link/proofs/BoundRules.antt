@@ -11,7 +11,7 @@ use Rattle.linked_bindings.specs.BindingFaults.{binding_faults}
 use Rattle.linked_bindings.specs.LinkedBinding.{binding_with, body_of, linked_binding, paths_of, response_of}
 use Rattle.message_types.specs.Types.{fields_of}
 use Rattle.message_types.specs.declared.messages.Types.{Types}
-use Rattle.schema_link.specs.LinkAnswers.{faults_of, rule_faults}
+use Rattle.schema_link.specs.LinkAnswers.{faults_of, linked_rule_faults}
 use Rattle.schema_link.specs.SetApi.{NumberedRule, binding_of, rule_binding}
 use Rattle.set_faults.specs.MethodFaults.{rule_template}
 
@@ -52,7 +52,7 @@ bound_rule linked methods r b h =
 -- where a rule has no fault, its method with its template has none
 pub bound_faultless : (linked : Types) (methods : List MethodInfo) (r : NumberedRule) (m : MethodInfo) (t : Template)
     → slice_get methods r.call ≡ Some m → rule_template r.rule ≡ Some t
-    → rule_faults linked methods r ≡ binding_faults linked m r.rule t
+    → linked_rule_faults linked methods r ≡ binding_faults linked m r.rule t
 bound_faultless linked methods r m t m_is t_is =
     ap (λ o. faults_of linked r.rule o (rule_template r.rule)) m_is ∙ ap (λ o. faults_of linked r.rule (Some m) o) t_is
 

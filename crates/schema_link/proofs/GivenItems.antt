@@ -1,7 +1,7 @@
 -- Lists whose items are those that a function gives for the items of another list.
-use Rattle.std.proofs.Common.{◌≡◌, ◌++◌, ℕ, zero, suc, List, [], ◌∷◌, Option, Some, None, IsSome, length, map, slice_get, refl, sym, ap, ◌∙◌}
-use Rattle.std.specs.List.{AllByRecursion, flat_map}
-use Rattle.std.specs.Option.{option_to_list}
+use Rattle.std.proofs.Common.{◌≡◌, ℕ, zero, suc, List, [], ◌∷◌, Option, Some, None, IsSome, length, map, option_and_then, option_map, slice_get, refl, sym, ap, ◌∙◌}
+use Rattle.std.specs.List.{AllByRecursion}
+use Rattle.linked_types.specs.EachSome.{each_some}
 
 -- what is given of each item has a property, where the item has one
 pub all_given : {A B : Type 0} (f : A → Option B) (P : A → Type 0) (Q : B → Type 0) (xs : List A) (ys : List B)
@@ -12,17 +12,17 @@ all_given f P Q [] (y ∷ ys) h each all = absurd (cc h)
 all_given f P Q (x ∷ xs) [] h each all = absurd (cc h)
 all_given f P Q (x ∷ xs) (y ∷ ys) h each (p, all) = (each x y (cc h) p, all_given f P Q xs ys (cc h) each all)
 
--- what is given, joined, is all of it
-pub joined_given : {A B : Type 0} (f : A → Option B) (xs : List A) (ys : List B) → map (λ y. Some y) ys ≡ map f xs
-    → flat_map (λ x. option_to_list (f x)) xs ≡ ys
-joined_given f [] [] h = refl
-joined_given f [] (y ∷ ys) h = absurd (cc h)
-joined_given f (x ∷ xs) [] h = absurd (cc h)
-joined_given f (x ∷ xs) (y ∷ ys) h =
+-- what is given is what each item has
+pub some_given : {A B : Type 0} (f : A → Option B) (xs : List A) (ys : List B) → map (λ y. Some y) ys ≡ map f xs
+    → each_some f xs ≡ Some ys
+some_given f [] [] h = refl
+some_given f [] (y ∷ ys) h = absurd (cc h)
+some_given f (x ∷ xs) [] h = absurd (cc h)
+some_given f (x ∷ xs) (y ∷ ys) h =
     let given : f x ≡ Some y = cc h in
     let rest : map (λ y. Some y) ys ≡ map f xs = cc h in
-    ap (λ o. option_to_list o ++ flat_map (λ x. option_to_list (f x)) xs) given
-    ∙ ap (λ zs. y ∷ zs) (joined_given f xs ys rest)
+    ap (λ o. option_and_then (λ z. option_map (λ zs. z ∷ zs) (each_some f xs)) o) given
+    ∙ ap (λ o. option_map (λ zs. y ∷ zs) o) (some_given f xs ys rest)
 
 -- as many are given as there are items
 pub length_given : {A B : Type 0} (f : A → Option B) (xs : List A) (ys : List B) → map (λ y. Some y) ys ≡ map f xs
@@ -65,4 +65,7 @@ all_there {B = B} f (x ∷ xs) (some, h) = pick (f x) refl some (all_there f xs 
 -- what is given is one list
 pub given_one : {A B : Type 0} (f : A → Option B) (xs : List A) (ys zs : List B) → map (λ y. Some y) ys ≡ map f xs
     → map (λ z. Some z) zs ≡ map f xs → ys ≡ zs
-given_one f xs ys zs h g = sym (joined_given f xs ys h) ∙ joined_given f xs zs g
+given_one {B = B} f xs ys zs h g = one (sym (some_given f xs ys h) ∙ some_given f xs zs g)
+  where
+    one : Some ys ≡ Some zs → ys ≡ zs
+    one e = cc e

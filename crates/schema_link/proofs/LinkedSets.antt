@@ -19,7 +19,7 @@ use Rattle.linked_types.specs.LinkedTypes.{message_id}
 use Rattle.message_types.specs.declared.messages.TypeId.{TypeId}
 use Rattle.message_types.specs.declared.messages.Types.{Types}
 use Rattle.schema.specs.Soundness.{IsSound}
-use Rattle.schema_link.specs.LinkAnswers.{rule_faults}
+use Rattle.schema_link.specs.LinkAnswers.{linked_rule_faults}
 use Rattle.schema_link.specs.SetApi.{NumberedRule, linked_method, method_with, rule_binding}
 use Rattle.schema_link.specs.SetNames.{HasMethodAt}
 use Rattle.set_faults.specs.LawfulSets.{IsLawfulMethod, IsLawfulRule}
@@ -108,7 +108,7 @@ rule_parses rule t h is = subst IsTemplate (inner h.template t (sym h.template_i
 -- a binding that is linked of a lawful rule without faults is one of the API
 pub rule_bound : BindingLaw → (api : Api) → IsSound api.types → (r : NumberedRule) (b : Binding)
     → rule_binding api.types api.methods r ≡ Some b
-    → (r.call < length api.methods) × (IsLawfulRule r.rule × (rule_faults api.types api.methods r ≡ []))
+    → (r.call < length api.methods) × (IsLawfulRule r.rule × (linked_rule_faults api.types api.methods r ≡ []))
     → IsBindingOf api b
 rule_bound law api sound r b h (below, (lawful, none)) =
     let bound = bound_rule api.types api.methods r b h in

@@ -20,20 +20,21 @@ use Rattle.linked_api.specs.declared.api.Api.{Api}
 use Rattle.linked_api.specs.declared.api.MethodInfo.{MethodInfo}
 use Rattle.linked_bindings.specs.BindingFaults.{binding_faults}
 use Rattle.linked_bindings.specs.LinkedBinding.{linked_binding}
+use Rattle.linked_types.specs.EachSome.{each_some}
 use Rattle.linked_types.specs.FoundNames.{HasIds}
 use Rattle.linked_types.specs.LinkedNames.{type_names}
 use Rattle.linked_types.specs.LinkedTypes.{linked_types}
 use Rattle.message_types.specs.declared.messages.Types.{Types}
 use Rattle.schema.specs.Apart.{AreApart}
 use Rattle.schema.specs.Soundness.{IsSound}
-use Rattle.schema_link.specs.LinkAnswers.{bindings_faults, bindings_of, faults, late_faults, linked_faults, methods_of, route_faults, rule_faults}
+use Rattle.schema_link.specs.LinkAnswers.{bindings_faults, equal_routes, faults, late_faults, late_of, linked_faults, route_faults, linked_rule_faults}
 use Rattle.schema_link.specs.LinkSteps.{IsReady}
 use Rattle.schema_link.specs.SetApi.{IsApiOf, NumberedRule, linked_method, numbered_rules, rule_binding}
 use Rattle.set_faults.specs.LawfulSets.{IsLawfulMethod, IsLawfulRule, IsLawfulSet}
 use Rattle.set_faults.proofs.Theorems.{each_faultless, none_parts}
 use Rattle.set_faults.specs.SetFaults.{all_faults, faults as declared_faults}
 use Rattle.schema_link.proofs.BoundRules.{bound_binding, bound_faultless, bound_rule, made_of}
-use Rattle.schema_link.proofs.GivenItems.{all_given, all_there, given_one, joined_given, length_given}
+use Rattle.schema_link.proofs.GivenItems.{all_given, all_there, given_one, length_given, some_given}
 use Rattle.schema_link.proofs.LawfulTypes.{there}
 use Rattle.schema_link.proofs.LinkedSets.{BindingLaw, method_in_range, rule_bound}
 use Rattle.schema_link.proofs.RouteLemmas.{item_there, no_fault_no_repeat}
@@ -43,8 +44,8 @@ use Rattle.schema_link.proofs.RuleLemmas.{calls_below, each_rule, join_rules, ma
 pub linked_are : (t : Types) (methods : List MethodInfo) (rules : List NumberedRule) (bs : List Binding)
     → map (λ b. Some b) bs ≡ map (rule_binding t methods) rules
     → linked_faults methods rules t ≡ bindings_faults t methods rules ++ route_faults methods bs
-linked_are t methods rules bs h = ap (λ z. bindings_faults t methods rules ++ route_faults methods z)
-    (joined_given (rule_binding t methods) rules bs h)
+linked_are t methods rules bs h =
+    ap (λ o. bindings_faults t methods rules ++ equal_routes methods o) (some_given (rule_binding t methods) rules bs h)
 
 -- the faults that are seen once types and methods are linked
 pub late_is : (types : SetTypes) (ms : List BoundMethod) (t : Types) (methods : List MethodInfo)
@@ -52,9 +53,9 @@ pub late_is : (types : SetTypes) (ms : List BoundMethod) (t : Types) (methods : 
     → map (λ m. Some m) methods ≡ map (linked_method types (reachable types ms)) ms
     → late_faults types ms ≡ linked_faults methods (numbered_rules 0 ms) t
 late_is types ms t methods h g =
-    ap (λ o. option_map_or (linked_faults (methods_of types ms) (numbered_rules 0 ms)) o []) h
-    ∙ ap (λ z. linked_faults z (numbered_rules 0 ms) t)
-    (joined_given (linked_method types (reachable types ms)) ms methods g)
+    ap (λ o. late_of (numbered_rules 0 ms) o (each_some (linked_method types (reachable types ms)) ms)) h
+    ∙ ap (λ o. late_of (numbered_rules 0 ms) (Some t) o)
+    (some_given (linked_method types (reachable types ms)) ms methods g)
 
 -- the faults that are seen once types are linked, of what is linked
 pub late_are : (types : SetTypes) (ms : List BoundMethod) (api : Api) → IsApiOf types ms api
@@ -137,12 +138,12 @@ module _ (binding : BindingLaw)
       let lawful = each_rule IsLawfulRule 0 ms
       (each_weaker (IsLawfulMethod types) (λ m. AllByRecursion IsLawfulRule (method_rules m))
       (λ m l. l.rules) ms law.methods) in
-      let faultless = each_faultless (rule_faults api.types api.methods) rules parts.0 in
+      let faultless = each_faultless (linked_rule_faults api.types api.methods) rules parts.0 in
       let ready = each_both (λ (r : NumberedRule). r.call < length api.methods)
-      (λ (r : NumberedRule). IsLawfulRule r.rule × (rule_faults api.types api.methods r ≡ [])) rules
+      (λ (r : NumberedRule). IsLawfulRule r.rule × (linked_rule_faults api.types api.methods r ≡ [])) rules
       (rules_below types ms api is)
       (each_both (λ (r : NumberedRule). IsLawfulRule r.rule)
-      (λ (r : NumberedRule). rule_faults api.types api.methods r ≡ []) rules lawful faultless) in
+      (λ (r : NumberedRule). linked_rule_faults api.types api.methods r ≡ []) rules lawful faultless) in
       record {
         types = sound;
         names = names;
@@ -152,7 +153,7 @@ module _ (binding : BindingLaw)
             (each_both (IsLawfulMethod types) (HasIds types js api.types) ms law.methods ids);
         bindings = all_given (rule_binding api.types api.methods)
             (λ (r : NumberedRule). (r.call < length api.methods)
-            × (IsLawfulRule r.rule × (rule_faults api.types api.methods r ≡ [])))
+            × (IsLawfulRule r.rule × (linked_rule_faults api.types api.methods r ≡ [])))
             (IsBindingOf api) rules api.bindings is.bindings_are (rule_bound binding api sound) ready;
         routes = (routes api.bindings).1 (no_fault_no_repeat api.methods api.bindings
             (bindings_below types ms api is) parts.1);
@@ -193,7 +194,7 @@ set_parts set h = none_parts (declared_faults set) (late_faults (types_in (decla
 module _ (law : (types : Types) (m : MethodInfo) (call : ℕ) (method : List ℕ) (rule : HttpInfo) (t : Template)
     → binding_faults types m rule t ≡ [] → IsSome (linked_binding types m call method rule t)) where
   rule_there : (linked : Types) (methods : List MethodInfo) (r : NumberedRule)
-      → (r.call < length methods) × (IsLawfulRule r.rule × (rule_faults linked methods r ≡ []))
+      → (r.call < length methods) × (IsLawfulRule r.rule × (linked_rule_faults linked methods r ≡ []))
       → IsSome (rule_binding linked methods r)
   rule_there linked methods r (below, (lawful, none)) =
       let method = item_there methods r.call below in
@@ -215,20 +216,20 @@ module _ (law : (types : Types) (m : MethodInfo) (call : ℕ) (method : List ℕ
       let rules = numbered_rules 0 ms in
       let late = sym (late_is types ms linked methods linked_is methods_are) ∙ none in
       let parts = none_parts (bindings_faults linked methods rules)
-      (route_faults methods (bindings_of linked methods rules)) late in
+      (equal_routes methods (each_some (rule_binding linked methods) rules)) late in
       let calls = subst (λ n. AllByRecursion (λ (r : NumberedRule). r.call < n) rules)
       (sym (length_given (linked_method types js) ms methods methods_are)) (calls_below ms) in
       let each = each_rule IsLawfulRule 0 ms
       (each_weaker (IsLawfulMethod types) (λ m. AllByRecursion IsLawfulRule (method_rules m))
       (λ m l. l.rules) ms lawful) in
-      let faultless = each_faultless (rule_faults linked methods) rules parts.0 in
+      let faultless = each_faultless (linked_rule_faults linked methods) rules parts.0 in
       let sure = each_weaker (λ (r : NumberedRule). (r.call < length methods)
-      × (IsLawfulRule r.rule × (rule_faults linked methods r ≡ [])))
+      × (IsLawfulRule r.rule × (linked_rule_faults linked methods r ≡ [])))
       (λ (r : NumberedRule). IsSome (rule_binding linked methods r)) (rule_there linked methods) rules
       (each_both (λ (r : NumberedRule). r.call < length methods)
-      (λ (r : NumberedRule). IsLawfulRule r.rule × (rule_faults linked methods r ≡ [])) rules calls
+      (λ (r : NumberedRule). IsLawfulRule r.rule × (linked_rule_faults linked methods r ≡ [])) rules calls
       (each_both (λ (r : NumberedRule). IsLawfulRule r.rule)
-      (λ (r : NumberedRule). rule_faults linked methods r ≡ []) rules each faultless)) in
+      (λ (r : NumberedRule). linked_rule_faults linked methods r ≡ []) rules each faultless)) in
       let bindings = all_there (rule_binding linked methods) rules sure in (
         record { types = linked; methods = methods; bindings = bindings.0 },
         record { types_are = linked_is; methods_are = methods_are; bindings_are = bindings.1 },

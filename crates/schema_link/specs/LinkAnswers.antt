@@ -1,7 +1,6 @@
 -- The faults of a set, in the order in which they count, and what is answered to it.
-use Rattle.std.specs.Prelude.{◌≡◌, ◌++◌, List, [], ◌∷◌, Option, Some, Result, Ok, Err, slice_get}
+use Rattle.std.specs.Prelude.{◌≡◌, ◌++◌, List, [], ◌∷◌, Option, Some, None, Result, Ok, Err, slice_get}
 use Rattle.std.specs.List.{flat_map}
-use Rattle.std.specs.Option.{option_map_or, option_to_list}
 use Rattle.descriptors.specs.declared.file_set.FileSet.{FileSet}
 use Rattle.descriptor_pool.specs.DeclaredNames.{declarations}
 use Rattle.descriptor_pool.specs.DeclaredTypes.{SetTypes, types_in}
@@ -14,6 +13,7 @@ use Rattle.http_rules.specs.declared.template.Template.{Template}
 use Rattle.linked_api.specs.declared.api.Api.{Api}
 use Rattle.linked_api.specs.declared.api.MethodInfo.{MethodInfo}
 use Rattle.linked_bindings.specs.BindingFaults.{binding_faults}
+use Rattle.linked_types.specs.EachSome.{each_some}
 use Rattle.linked_types.specs.LinkedTypes.{linked_types}
 use Rattle.message_types.specs.declared.messages.Types.{Types}
 use Rattle.schema_link.specs.SetApi.{IsSetApi, NumberedRule, linked_method, numbered_rules, rule_binding}
@@ -24,26 +24,18 @@ use Rattle.set_faults.specs.declared.fault.LinkFault.{LinkFault}
 use Rattle.set_faults.specs.declared.fault.LinkFault.TheVariants.{At}
 use Rattle.set_faults.specs.declared.fault.LinkKind.TheVariants.{SameRoute}
 
--- the methods that are linked
-abbrev pub methods_of : SetTypes → List BoundMethod → List MethodInfo
-methods_of types ms = flat_map (λ m. option_to_list (linked_method types (reachable types ms) m)) ms
-
 -- the faults of a rule that has a template, beside the linked types of its method
 abbrev pub faults_of : Types → HttpInfo → Option MethodInfo → Option Template → List LinkFault
 faults_of linked rule (Some method) (Some template) = binding_faults linked method rule template
 faults_of linked rule _ _ = []
 
 -- the faults of a rule of one of these methods
-abbrev pub rule_faults : Types → List MethodInfo → NumberedRule → List LinkFault
-rule_faults linked methods r = faults_of linked r.rule (slice_get methods r.call) (rule_template r.rule)
+abbrev pub linked_rule_faults : Types → List MethodInfo → NumberedRule → List LinkFault
+linked_rule_faults linked methods r = faults_of linked r.rule (slice_get methods r.call) (rule_template r.rule)
 
 -- the faults of rules, in order
 abbrev pub bindings_faults : Types → List MethodInfo → List NumberedRule → List LinkFault
-bindings_faults linked methods rules = flat_map (rule_faults linked methods) rules
-
--- the bindings that are linked of rules
-abbrev pub bindings_of : Types → List MethodInfo → List NumberedRule → List Binding
-bindings_of linked methods rules = flat_map (λ r. option_to_list (rule_binding linked methods r)) rules
+bindings_faults linked methods rules = flat_map (linked_rule_faults linked methods) rules
 
 -- the fault of a binding that is the route of an earlier one: the gRPC paths of both
 abbrev pub route_fault : Option MethodInfo → Option MethodInfo → List LinkFault
@@ -55,16 +47,26 @@ abbrev pub route_faults : List MethodInfo → List Binding → List LinkFault
 route_faults methods bs =
     flat_map (λ p. route_fault (slice_get methods p.0.call) (slice_get methods p.1.call)) (repeated_routes bs)
 
--- the faults that are seen once types are linked: of each binding, then of bindings beside one another
+-- the faults of bindings beside one another, where each rule is linked
+abbrev pub equal_routes : List MethodInfo → Option (List Binding) → List LinkFault
+equal_routes methods None = []
+equal_routes methods (Some bs) = route_faults methods bs
+
+-- the faults that are seen once types and methods are linked: of each binding, then of bindings beside one another
 abbrev pub linked_faults : List MethodInfo → List NumberedRule → Types → List LinkFault
 linked_faults methods rules linked =
-    bindings_faults linked methods rules ++ route_faults methods (bindings_of linked methods rules)
+    bindings_faults linked methods rules ++ equal_routes methods (each_some (rule_binding linked methods) rules)
 
--- the same of the types that are linked of methods, where they are
+-- the same, where types and methods are linked
+abbrev pub late_of : List NumberedRule → Option Types → Option (List MethodInfo) → List LinkFault
+late_of rules (Some linked) (Some methods) = linked_faults methods rules linked
+late_of rules _ _ = []
+
+-- the same of the types and methods that are linked of bound ones
 abbrev pub late_faults : SetTypes → List BoundMethod → List LinkFault
 late_faults types ms =
-    option_map_or (linked_faults (methods_of types ms) (numbered_rules 0 ms))
-    (linked_types types (reachable types ms)) []
+    late_of (numbered_rules 0 ms) (linked_types types (reachable types ms))
+    (each_some (linked_method types (reachable types ms)) ms)
 
 -- the faults of a set: of what is declared, then of what is linked of it
 abbrev pub faults : FileSet → List LinkFault

@@ -118,11 +118,11 @@ fn link_named<'a>(alloc: Global, names: &'a Names, set: &'a FileSet) -> Result<A
     ensures { IsLinkOf set.now result }
 {
     faultless_sets_are_ready();
-    let all_declarations = declarations_of(alloc, names, set)?;
-    let declarations = all_declarations.as_slice();
     let all_methods = bound_methods(alloc, set)?;
     let methods = all_methods.as_slice();
-    check_size(alloc, declarations, methods)?;
+    check_size(alloc, set, methods)?;
+    let all_declarations = declarations_of(alloc, names, set)?;
+    let declarations = all_declarations.as_slice();
     check_names(alloc, declarations)?;
     let types = types_of(alloc, declarations)?;
     link_types(alloc, &types, methods)

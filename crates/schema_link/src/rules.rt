@@ -2,7 +2,7 @@
 ghost use Rattle.std.specs.Prelude.{◌≡◌, ◌<◌, ◌^◌, ◌++◌, length, map, IfOk, OnOk, Some};
 ghost use Rattle.std.specs.List.{AllByRecursion};
 ghost use Rattle.descriptor_pool.specs.SetMethods.{method_rules};
-ghost use Rattle.schema_link.specs.LinkAnswers.{bindings_faults, rule_faults};
+ghost use Rattle.schema_link.specs.LinkAnswers.{bindings_faults, linked_rule_faults};
 ghost use Rattle.schema_link.specs.SetApi.{NumberedRule as NumberedRuleOf, numbered, numbered_rules, rule_binding};
 ghost use Rattle.set_faults.specs.LinkFaults.{IsFirstOf};
 ghost use Rattle.set_faults.specs.MethodFaults.{rule_template};
@@ -90,7 +90,7 @@ fn link_rule(
 ) -> Result<Binding, LinkFault>
     requires call { rule.now.call < length methods.now }
     requires template { rule_template rule.now.rule ≡ Some template }
-    ensures faults { IsFirstOf result (rule_faults names.now methods.now rule.now) }
+    ensures faults { IsFirstOf result (linked_rule_faults names.now methods.now rule.now) }
     ensures binding { IfOk result (λ b. rule_binding names.now methods.now rule.now ≡ Some b) }
 {
     let method = &methods[rule.call as usize];

@@ -15,6 +15,7 @@ use Rattle.set_faults.specs.declared.fault.LinkFault.TheVariants.{At}
 use Rattle.set_faults.specs.declared.fault.LinkKind.TheVariants.{DoubleName, TooMany}
 use Rattle.set_faults.proofs.FaultlessMessages.{no_reached_faults}
 use Rattle.set_faults.proofs.FaultlessMethods.{no_methods_faults}
+use Rattle.set_faults.proofs.LawfulNames.{undoubled}
 use Rattle.set_faults.proofs.NoFaultLemmas.{no_fault, none_both}
 
 has_method : (ms : List BoundMethod) → ms ≢ [] → no_route ms ≡ []
@@ -35,5 +36,5 @@ no_set_faults ds ms l =
     (not_over 64 distinct (codes "methods") l.few_methods)) in
     let reached = no_reached_faults types (reachable types ms) l.messages in
     none_both size
-    (none_both (ap (map (λ d. At DoubleName (name_of d) [])) l.names)
+    (none_both (ap (map (λ d. At DoubleName (name_of d) [])) (undoubled ds l.files l.names))
     (none_both (has_method ms l.some_method) (none_both (no_methods_faults types ms l.methods) reached)))

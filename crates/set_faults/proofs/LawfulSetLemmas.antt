@@ -17,6 +17,7 @@ use Rattle.set_faults.specs.declared.fault.LinkFault.TheVariants.{At}
 use Rattle.set_faults.specs.declared.fault.LinkKind.TheVariants.{DoubleName, TooMany}
 use Rattle.set_faults.proofs.LawfulMessages.{reached_lawful}
 use Rattle.set_faults.proofs.LawfulMethods.{HttpLaws, methods_lawful}
+use Rattle.set_faults.proofs.LawfulNames.{names_apart}
 use Rattle.set_faults.proofs.Theorems.{none_parts, test_fails}
 
 nothing_named : {X Y : Type 0} (f : X → Y) (xs : List X) → map f xs ≡ [] → xs ≡ []
@@ -43,13 +44,15 @@ set_lawful law ds ms h =
     let few = fault_if (nat_lt 10000 (length rules)) (At TooMany (codes "bindings") []) in
     let bound = none_parts few methods counted.1 in
     let names = none_parts (double_names ds) (reaching_faults types ms) size.1 in
+    let apart = names_apart ds (nothing_named (λ d. At DoubleName (name_of d) []) (doubled [] ds) names.0) in
     let route = none_parts (no_route ms) _ names.1 in
     let reaching = none_parts (methods_faults types ms) (reached_faults types (reachable types ms)) route.1 in
     record {
       few_types = at_most 10000 (count_by is_type ds) (codes "types") counted.0;
       few_bindings = at_most 10000 (length rules) (codes "bindings") bound.0;
       few_methods = at_most 64 distinct (codes "methods") bound.1;
-      names = nothing_named (λ d. At DoubleName (name_of d) []) (doubled [] ds) names.0;
+      files = apart.0;
+      names = apart.1;
       some_method = some_method ms route.0;
       methods = methods_lawful law types ms reaching.0;
       messages = reached_lawful types (reachable types ms) reaching.1;

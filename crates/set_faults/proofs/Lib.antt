@@ -6,6 +6,8 @@ pub mod NameLemmas
 pub mod FieldLemmas
 -- Templates of rules.
 pub mod TemplateLemmas
+-- Names are apart where none came before.
+pub mod LawfulNames
 -- Sets without faults are lawful.
 pub mod LawfulMethods
 pub mod LawfulFields

@@ -1,7 +1,7 @@
 -- What a set without faults is, in the words of what it declares (descriptor.proto, google/api/http.proto, the
 -- ProtoJSON guide).
-use Rattle.std.specs.Prelude.{◌≡◌, ◌≢◌, ◌≤◌, ℕ, Bool, true, false, List, [], length, map, codes, count_by, IsSome, Some, slice_get}
-use Rattle.std.specs.List.{AllByRecursion, IsDistinct, list_any}
+use Rattle.std.specs.Prelude.{◌≡◌, ◌≢◌, ◌≤◌, ℕ, Bool, true, false, List, [], ◌∷◌, length, map, codes, count_by, IsSome, Some, slice_get}
+use Rattle.std.specs.List.{AllByRecursion, IsDistinct, flat_map, list_any}
 use Rattle.std.specs.Ordering.{int_eq}
 use Rattle.std.specs.Set.{distinct_count}
 use Rattle.std.specs.Str.{bytes_eq}
@@ -11,7 +11,7 @@ use Rattle.descriptors.specs.declared.file_set.PatternInfo.{PatternInfo}
 use Rattle.http_rules.specs.Template.{IsTemplateText, IsWithinLimits}
 use Rattle.http_rules.specs.Tokens.{is_method_kind}
 use Rattle.http_rules.specs.declared.template.Template.{Template}
-use Rattle.descriptor_pool.specs.DeclaredNames.{Declaration, DeclaredEnum, DeclaredMessage, is_type}
+use Rattle.descriptor_pool.specs.DeclaredNames.{Declaration, DeclaredEnum, DeclaredMessage, File, Message, Enum, Service, is_type}
 use Rattle.descriptor_pool.specs.DeclaredTypes.{SetTypes, message_named, types_in}
 use Rattle.descriptor_pool.specs.FieldTypes.{has_type, value_field}
 use Rattle.descriptor_pool.specs.ReachableTypes.{Joined, reachable}
@@ -20,7 +20,6 @@ use Rattle.descriptor_pool.specs.WellKnownTypes.{are_published}
 use Rattle.set_faults.specs.KeySteps.{keys_of}
 use Rattle.set_faults.specs.MessageFaults.{enum_of, has_extensions, has_lawful_entry, is_field_number, is_lawful_enum, is_lawful_label, is_oneof_index, is_struct, is_type_number}
 use Rattle.set_faults.specs.MethodFaults.{pattern_text, rule_template}
-use Rattle.set_faults.specs.NameFaults.{doubled}
 
 -- a type name names an enum of the set, which is not NullValue, and has a value, 0 first, and no name twice
 pub record IsLawfulEnumType (types : SetTypes) (type_name : List ℕ) : Type 0 where
@@ -84,13 +83,26 @@ pub record IsLawfulMethod (types : SetTypes) (m : BoundMethod) : Type 0 where
   pub rules : AllByRecursion IsLawfulRule (method_rules m)
   pub flat : AllByRecursion (λ rule. additional_rules rule ≡ []) (additional_rules m.rule)
 
--- a set is of a lawful size, no name in it came before, it has a method with an annotation, and its methods and the
--- messages that they reach are lawful
+-- the name of a file, where a declaration is one
+abbrev pub file_name : Declaration → List (List ℕ)
+file_name (File name) = name ∷ []
+file_name _ = []
+
+-- the full name of a message, an enum or a service, where a declaration is one
+abbrev pub full_name : Declaration → List (List ℕ)
+full_name (Message m) = m.name ∷ []
+full_name (Enum e) = e.name ∷ []
+full_name (Service name) = name ∷ []
+full_name _ = []
+
+-- a set is of a lawful size, no two files have one name, no two messages, enums and services have one full name, it
+-- has a method with an annotation, and its methods and the messages that they reach are lawful
 pub record IsLawfulSet (ds : List Declaration) (ms : List BoundMethod) : Type 0 where
   pub few_types : count_by is_type ds ≤ 10000
   pub few_bindings : length (all_rules ms) ≤ 10000
   pub few_methods : distinct_count bytes_eq (rule_methods (all_rules ms)) ≤ 64
-  pub names : doubled [] ds ≡ []
+  pub files : IsDistinct bytes_eq (flat_map file_name ds)
+  pub names : IsDistinct bytes_eq (flat_map full_name ds)
   pub some_method : ms ≢ []
   pub methods : AllByRecursion (IsLawfulMethod (types_in ds)) ms
   pub messages : AllByRecursion (IsLawfulItem (types_in ds)) (reachable (types_in ds) ms)

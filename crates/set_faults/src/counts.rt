@@ -1,14 +1,15 @@
 //! How large a set may be.
-ghost use Rattle.std.specs.Prelude.{◌≡◌, count_by, map, IfOk};
+ghost use Rattle.std.specs.Prelude.{◌≡◌, map, IfOk};
 ghost use Rattle.std.specs.Set.{distinct_count};
 ghost use Rattle.std.specs.Str.{bytes_eq};
 ghost use Rattle.set_faults.specs.LinkFaults.{IsFirstOf};
 ghost use Rattle.set_faults.specs.NameFaults.{too_many};
-ghost use Rattle.descriptor_pool.specs.DeclaredNames.{is_type};
+ghost use Rattle.descriptor_pool.specs.DeclaredNames.{declarations};
 
 use crate::fault::{LinkFault, LinkKind, refuse_if};
 use base::NoMemory;
-use descriptor_pool::{BoundMethod, Declaration, rule_methods, rules_of};
+use descriptor_pool::{BoundMethod, has_types, rule_methods, rules_of};
+use descriptors::FileSet;
 use std::alloc::Global;
 use std::collections::BTreeSet;
 
@@ -29,31 +30,18 @@ pub(crate) fn distinct_len(alloc: Global, texts: Vec<&[u8]>) -> Result<usize, No
     Ok(set.len())
 }
 
-/// The number of messages and enums.
-fn types_len(declarations: &[Declaration<'_>]) -> usize
-    ensures { result ≡ count_by is_type declarations.now }
-{
-    declarations.iter().filter(|d| d.is_type()).count()
-}
-
-/// Refuses a set with too many messages and enums, bindings or HTTP methods. Nothing is looked up by
-/// its name.
+/// Refuses a set with too many messages and enums, bindings or HTTP methods. Call it first: the set's
+/// own declarations are counted, before any of them is listed or named.
 #[tactic(auto, using(crate::proofs::Theorems::first_faults))]
 pub fn check_size(
     alloc: Global,
-    declarations: &[Declaration<'_>],
+    set: &FileSet,
     methods: &[BoundMethod<'_>],
 ) -> Result<(), LinkFault>
-    ensures { IsFirstOf result (too_many declarations.now methods.now) }
+    ensures { IsFirstOf result (too_many (declarations set.now) methods.now) }
 {
     let kind = LinkKind::TooMany;
-    refuse_if(
-        alloc,
-        MAX_TYPES < types_len(declarations),
-        kind,
-        "types",
-        "",
-    )?;
+    refuse_if(alloc, has_types(set, MAX_TYPES + 1), kind, "types", "")?;
     let rules = rules_of(alloc, methods)?;
     refuse_if(alloc, MAX_BINDINGS < rules.len(), kind, "bindings", "")?;
     let distinct = distinct_len(alloc, rule_methods(alloc, rules.as_slice())?)?;

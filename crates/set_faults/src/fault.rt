@@ -28,7 +28,7 @@ pub enum LinkKind {
     /// The text of a path template is none: the offset of its fault. Or it is one of over 64 segments
     /// or over 16 variables: `many`.
     TemplateAt,
-    /// The file's syntax is proto2.
+    /// The file's syntax is `proto2`. An absent or an empty syntax means that too.
     Proto2,
     /// The file's syntax is neither empty, `proto2` nor `proto3`.
     Edition,

@@ -34,7 +34,8 @@ fn came_before<'a>(
 }
 
 /// Refuses a name that came before: of a file, or of a message, an enum or a service. Call it before
-/// names are looked up: where no two are equal, none is compared with its own like.
+/// names are looked up: where no two of them are equal, a look-up meets at most one that is equal to its
+/// own.
 pub fn check_names<'a>(alloc: Global, declarations: &[Declaration<'a>]) -> Result<(), LinkFault>
     ensures { IsFirstOf result (double_names declarations.now) }
 {

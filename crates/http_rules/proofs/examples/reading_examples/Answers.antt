@@ -5,6 +5,10 @@ pub returns : goal.returns
 returns c = record {
   variable = refl;
   spelled_out = refl;
+  wildcard = refl;
+  verb = refl;
+  rest = refl;
+  range = refl;
   variable_inside = refl;
   behind_rest = refl;
   no_slash = refl;

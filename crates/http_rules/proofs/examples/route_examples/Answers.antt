@@ -2,4 +2,12 @@ use Rattle.std.proofs.Common.{refl}
 use Rattle.http_rules.proofs.examples.route_examples.Goals as goal
 
 pub returns : goal.returns
-returns c = record { spelled_out = refl; without_variable = refl; verb = refl; wildcard = refl; method = refl; earliest = refl }
+returns c = record {
+  spelled_out = refl;
+  without_variable = refl;
+  verb = refl;
+  wildcard = refl;
+  no_template = refl;
+  method = refl;
+  earliest = refl;
+}

@@ -1,6 +1,0 @@
-use Rattle.std.proofs.Common.{◌↔◌, drop}
-use Rattle.gateway_run.specs.PathPieces.{TakeAll}
-use Rattle.gateway_run.proofs.matching.take_all.Given as goal
-
-abbrev pub invariant-loop-segment : goal.invariant-loop-segment
-invariant-loop-segment l = TakeAll (drop l.segment-index l.segments) l.rest ↔ TakeAll l.segments l.path

@@ -1,0 +1,10 @@
+pub use Rattle.http_rules.specs.Routes
+pub use Rattle.http_rules.specs.Template
+pub use Rattle.http_rules.specs.TemplateMatch
+pub use Rattle.http_rules.specs.TemplateOrder
+pub mod BindingMethods
+pub mod FitExamples
+pub mod RouteChoice
+pub mod RoutableBindings
+pub mod PathSegments
+pub mod RouteSearch
