@@ -5,9 +5,9 @@ usage: sample_sets.py [--check]
 
 It writes
   crates/grpcjson/data/items.bin the set of items.proto, without imports
-  crates/bind_rows/stdin         the rows of `bind`, `check` and `routes`: requests, words, faults of the outside, and
-                                 sets: for faults of reading, of linking and each point of the form that `bind`
-                                 serves, one that breaks it alone and one at its edge; and the library's set
+  crates/bind_rows/stdin         the rows of `bind`, `check` and `routes`: requests, words, inputs, faults of the
+                                 outside, and sets: for faults of reading, of linking and each point of the form that
+                                 `bind` serves, one that breaks it alone and one at its edge; and the library's set
   crates/bind_rows/stdout        their answers
 With --check it writes nothing, and fails where a file differs from what it would write.
 """
@@ -18,6 +18,7 @@ ROOT = pathlib.Path(__file__).resolve().parent.parent
 
 sys.path.insert(0, str(ROOT / "scripts"))
 from set_parts import *  # noqa: E402, F403
+from library_set import LIB  # noqa: E402
 from told_sets import FAULTY, ITEM_ROUTE, SERVED  # noqa: E402
 
 ITEMS = fileset(file())
@@ -25,8 +26,18 @@ ENUM = text(1, "E") + text(2, text(1, "ZERO") + num(2, 0))
 NAMES = [field(), field("b_c", 2, json="bC")]
 SHORT = "/v1/items/x"
 
-# What `bind` answers: the request is served, or not yet; every other answer is a fault of the set.
-READ, NOT_BUILT = "read", "not built"
+# What `bind` answers: the request means a message with the text "x" as field 1; or it is refused, or means another
+# message; every other answer is a fault of the set.
+READ = "read"
+NOT_BUILT, UNKNOWN, NOT_ALLOWED = "refused 501 not built", "refused 404 path unknown", "refused 405 method not allowed"
+NOT_SERVED, BODY_TOO_LONG = "refused 501 method not served", "refused 413 body too long"
+NOT_UTF8, BAD_NUMBER = "refused 400 path variable 1: not UTF-8", "refused 400 path variable 1: bad number"
+
+
+def means(payload):
+    """The message of these bytes, in hexadecimal."""
+    return "means " + payload
+
 
 
 def nested(depth):
@@ -133,14 +144,14 @@ CASES = [
     ("a message that no method names, with a number", fileset(file(messages=[message(), message("N", [field(kind=5)])])), SHORT, READ),
     # fields
     ("type double", of_field(kind=1), SHORT, "Float p.M.id /p.S/Get"),
-    ("type int32", of_field(kind=5), SHORT, NOT_BUILT),
+    ("type int32", of_field(kind=5), SHORT, BAD_NUMBER),
     ("type bytes", of_field(kind=12), SHORT, NOT_BUILT),
     ("no type", of_field(kind=None), SHORT, "BadField p.M.id"),
     ("label required", of_field(label=2), SHORT, "BadField p.M.id"),
     ("label repeated", of_field(label=3), SHORT, "PathField /p.S/Get id"),
     ("no label", of_field(label=None), SHORT, "BadField p.M.id"),
-    ("an oneof index", of_message(fields=[field(more=num(9, 0))], more=text(8, text(1, "o"))), SHORT, NOT_BUILT),
-    ("proto3 optional", of_field(more=num(17, 1)), SHORT, NOT_BUILT),
+    ("an oneof index", of_message(fields=[field(more=num(9, 0))], more=text(8, text(1, "o"))), SHORT, READ),
+    ("proto3 optional", of_field(more=num(17, 1)), SHORT, READ),
     ("proto3 optional said to be false", of_field(more=num(17, 0)), SHORT, READ),
     ("field number 0", of_field(number=0), SHORT, "BadField p.M.id"),
     ("field number -1", of_field(number=-1), SHORT, "BadField p.M.id"),
@@ -159,10 +170,10 @@ CASES = [
     ("two services", fileset(file(services=[service(), service("T", [])])), SHORT, READ),
     ("no method", fileset(file(services=[service(methods=[])])), SHORT, "NoRoute set"),
     ("two methods", fileset(file(services=[service(methods=[method(), method("Put", http=b"")])])), SHORT, READ),
-    ("two methods with rules", fileset(file(services=[service(methods=[method(), method("Put", http=rule("/v2/{id}"))])])), SHORT, NOT_BUILT),
+    ("two methods with rules", fileset(file(services=[service(methods=[method(), method("Put", http=rule("/v2/{id}"))])])), SHORT, READ),
     ("two methods with one route", fileset(file(services=[service(methods=[method(), method("Put")])])), SHORT, "SameRoute /p.S/Get /p.S/Put"),
     ("a client that streams", of_method(more=num(5, 1)), SHORT, NOT_BUILT),
-    ("a server that streams", of_method(more=num(6, 1)), SHORT, NOT_BUILT),
+    ("a server that streams", of_method(more=num(6, 1)), SHORT, READ),
     ("neither streams, said", of_method(more=num(5, 0) + num(6, 0)), SHORT, READ),
     ("a request of another name", of_method(request=".p.N"), SHORT, "UnknownType /p.S/Get .p.N"),
     ("a request without its leading dot", of_method(request="p.M"), SHORT, "UnknownType /p.S/Get p.M"),
@@ -171,39 +182,39 @@ CASES = [
     # the rule
     ("no rule", of_method(http=b""), SHORT, "NoRoute set"),
     ("an empty rule", of_method(http=b"", more=text(4, options(b""))), SHORT, "NoPattern /p.S/Get"),
-    ("a POST", of_method(http=text(4, "/v1/items/{id}")), SHORT, NOT_BUILT),
+    ("a POST", of_method(http=text(4, "/v1/items/{id}")), SHORT, NOT_ALLOWED),
     ("a GET behind a PUT", of_method(http=text(3, "/v1/{id}") + rule()), SHORT, READ),
-    ("a PUT behind a GET", of_rule(more=text(3, "/v1/{id}")), SHORT, NOT_BUILT),
+    ("a PUT behind a GET", of_rule(more=text(3, "/v1/{id}")), SHORT, UNKNOWN),
     ("a custom kind GET", of_method(http=text(8, text(1, "GET") + text(2, "/v1/items/{id}"))), SHORT, READ),
-    ("a custom kind", of_method(http=text(8, text(1, "K") + text(2, "/v1/items/{id}"))), SHORT, NOT_BUILT),
+    ("a custom kind", of_method(http=text(8, text(1, "K") + text(2, "/v1/items/{id}"))), SHORT, NOT_ALLOWED),
     ("a body", of_rule(more=text(7, "*")), SHORT, NOT_BUILT),
     ("a body of no field", of_rule(more=text(7, "name")), SHORT, "BodyField /p.S/Get name"),
     ("an empty body", of_rule(more=text(7, "")), SHORT, READ),
-    ("a response body", of_rule(more=text(12, "id")), SHORT, NOT_BUILT),
+    ("a response body", of_rule(more=text(12, "id")), SHORT, READ),
     ("a response body of no field", of_rule(more=text(12, "*")), SHORT, "ResponseField /p.S/Get *"),
-    ("an additional binding", of_rule(more=text(11, rule("/v2/{id}"))), SHORT, NOT_BUILT),
+    ("an additional binding", of_rule(more=text(11, rule("/v2/{id}"))), SHORT, READ),
     # the template
     ("a variable alone", of_rule("/{id}"), "/x", READ),
     ("a literal behind the variable", of_rule("/{id}/b"), "/x/b", READ),
     ("each literal byte", of_rule("/azAZ09-._~!$&'()+,;=@/{id}"), "/azAZ09-._~!$&'()+,;=@/x", READ),
     ("64 segments", of_rule("/a" * 63 + "/{id}"), "/a" * 63 + "/x", READ),
     ("65 segments", of_rule("/a" * 64 + "/{id}"), "/a" * 64 + "/x", "TemplateAt /p.S/Get many"),
-    ("no variable", of_rule("/v1/items"), SHORT, NOT_BUILT),
-    ("two variables", fileset(file(messages=[message(fields=NAMES)], services=[service(methods=[method(http=rule("/v1/{id}/{b_c}"))])])), SHORT, NOT_BUILT),
+    ("no variable", of_rule("/v1/items"), SHORT, UNKNOWN),
+    ("two variables", fileset(file(messages=[message(fields=NAMES)], services=[service(methods=[method(http=rule("/v1/{id}/{b_c}"))])])), SHORT, means("0a056974656d73120178")),
     ("one variable twice", of_rule("/v1/{id}/{id}"), SHORT, "PathField /p.S/Get id"),
     ("a variable of another name", of_rule("/v1/items/{name}"), SHORT, "PathField /p.S/Get name"),
     ("a variable with its segment", of_rule("/v1/items/{id=*}"), SHORT, READ),
-    ("a variable of a literal", of_rule("/v1/items/{id=x}"), SHORT, NOT_BUILT),
-    ("a variable of two segments", of_rule("/v1/{id=items/*}"), SHORT, NOT_BUILT),
-    ("a variable of all that follows", of_rule("/v1/items/{id=**}"), SHORT, NOT_BUILT),
+    ("a variable of a literal", of_rule("/v1/items/{id=x}"), SHORT, READ),
+    ("a variable of two segments", of_rule("/v1/{id=items/*}"), SHORT, means("0a076974656d732f78")),
+    ("a variable of all that follows", of_rule("/v1/items/{id=**}"), SHORT, READ),
     ("a variable in a message", of_message(fields=[field(), field("x", 2, 1, 11, "x", text(6, ".p.M"))]), SHORT, READ),
-    ("a variable of a field in a message", fileset(file(messages=[message(fields=[field("x", 2, 1, 11, "x", text(6, ".p.N"))]), message("N")], services=[service(methods=[method(http=rule("/v1/items/{x.id}"))])])), SHORT, NOT_BUILT),
+    ("a variable of a field in a message", fileset(file(messages=[message(fields=[field("x", 2, 1, 11, "x", text(6, ".p.N"))]), message("N")], services=[service(methods=[method(http=rule("/v1/items/{x.id}"))])])), SHORT, means("12030a0178")),
     ("a variable of no name", of_rule("/v1/items/{}"), SHORT, "TemplateAt /p.S/Get 11"),
     ("an open brace", of_rule("/v1/items/{id"), SHORT, "TemplateAt /p.S/Get 13"),
-    ("a verb", of_rule("/v1/items/{id}:go"), SHORT, NOT_BUILT),
+    ("a verb", of_rule("/v1/items/{id}:go"), SHORT, UNKNOWN),
     ("a wildcard", of_rule("/v1/*/{id}"), SHORT, READ),
     ("a wildcard behind the variable", of_rule("/v1/{id}/*"), "/v1/x/items", READ),
-    ("all that follows behind the variable", of_rule("/v1/items/{id}/**"), SHORT, NOT_BUILT),
+    ("all that follows behind the variable", of_rule("/v1/items/{id}/**"), SHORT, READ),
     ("a slash at the end", of_rule("/v1/items/{id}/"), SHORT, "TemplateAt /p.S/Get 15"),
     ("no slash at the front", of_rule("v1/items/{id}"), SHORT, "TemplateAt /p.S/Get 0"),
     ("two slashes", of_rule("/v1//{id}"), SHORT, "TemplateAt /p.S/Get 4"),
@@ -230,10 +241,14 @@ BOUND = [
     ("/v1/items/%", "0a0125"),
     ("/v1/items/%C3%A9", "0a02c3a9"),
     ("/v1/items/a+b:c", "0a05612b623a63"),
+    ("/v1/items/a#b", "0a03612362"),
+    # a target in absolute form (RFC 9112, section 3.2.2)
+    ("http://h/v1/items/x", "0a0178"),
+    ("HTTP://h:80/v1/items/x", "0a0178"),
+    ("hTTp:///v1/items/a%2Fb", "0a03612f62"),
 ]
 
 # A method and a target, and what refuses them.
-NOT_UTF8, UNKNOWN, REFUSED_NOT_BUILT = ("400 path variable 1: not UTF-8", "404 path unknown", "501 not built")
 REFUSED = [
     ("GET", "/v1/items/%ff", NOT_UTF8),
     ("GET", "/v1/items/%C3", NOT_UTF8),
@@ -244,12 +259,28 @@ REFUSED = [
     ("GET", "/V1/items/x", UNKNOWN),
     ("GET", "/v1/%69tems/x", UNKNOWN),
     ("GET", "/", UNKNOWN),
-    ("POST", "/v1/items/x", REFUSED_NOT_BUILT),
-    ("get", "/v1/items/x", REFUSED_NOT_BUILT),
-    ("GET", "/v1/items/x?", REFUSED_NOT_BUILT),
-    ("GET", "v1/items/x", REFUSED_NOT_BUILT),
-    ("GET", "http://h/v1/items/x", REFUSED_NOT_BUILT),
-    ("GET", "", REFUSED_NOT_BUILT),
+    ("POST", "/v1/items/x", NOT_ALLOWED),
+    ("get", "/v1/items/x", NOT_ALLOWED),
+    ("GET", "/v1/items/x?", NOT_BUILT),
+    ("GET", "v1/items/x", UNKNOWN),
+    ("GET", "http://h/v1/items/", UNKNOWN),
+    ("GET", "", UNKNOWN),
+    ("GET", "*", UNKNOWN),
+    ("GET", "h:80", UNKNOWN),
+    ("GET", "ftp://h/v1/items/x", UNKNOWN),
+    ("GET", "https://h/v1/items/x", UNKNOWN),
+    ("GET", "http:/h/v1/items/x", UNKNOWN),
+    ("GET", "http://h", UNKNOWN),
+    ("GET", "http://h?x", UNKNOWN),
+    ("GET", "http://h/v1/items/x?", NOT_BUILT),
+    ("POST", "/v1/items/x?", NOT_ALLOWED),
+    ("GET", "/other?", UNKNOWN),
+    # HEAD and CONNECT come first, whatever the target is, and byte for byte
+    ("HEAD", "/v1/items/x", NOT_SERVED),
+    ("CONNECT", "h:80", NOT_SERVED),
+    ("HEAD", "/other", NOT_SERVED),
+    ("head", "/v1/items/x", NOT_ALLOWED),
+    ("HEADS", "/v1/items/x", NOT_ALLOWED),
 ]
 
 # Words that are no command.
@@ -300,6 +331,12 @@ def debugged(line):
     return '"' + line.replace("\n", "\\n") + '"'
 
 
+def many(size):
+    """The word of so many blanks."""
+    times, rest = divmod(size, 256)
+    return f"{times}*{'20' * 256}" + (f"|{rest}*20" if rest else "")
+
+
 def padded(size):
     """The word of the sample set with an unlisted record behind it, of so many bytes."""
     payload = size - len(ITEMS) - 5
@@ -309,11 +346,12 @@ def padded(size):
     return f"{(ITEMS + head).hex()}|{times}*{'00' * 256}|{rest}*00"
 
 
-def row(label, words, status, out="", err="", data=ITEMS, room=70_000, failing="-"):
-    """A row and its answer: words over a set, the status, what is written and the error line."""
+def row(label, words, status, out="", err="", data=ITEMS, room=70_000, failing="-", body="-", cut="-", left=0):
+    """A row and its answer: words over a set and an input, the status, what is written, the error line, and how many
+    bytes of the input are left."""
     data = data if isinstance(data, str) else data.hex() or "-"
-    asked = " ".join([f"{room} {failing} {data}", *map(word, words)])
-    return label.replace(" ", "_"), asked, f"{status} {debugged(out)} {debugged(err)}"
+    asked = " ".join([f"{room} {failing} {data} {body} {cut}", *map(word, words)])
+    return label.replace(" ", "_"), asked, f"{status} {debugged(out)} {debugged(err)} {left}"
 
 
 def bind(target, method="GET"):
@@ -341,15 +379,149 @@ def told_rows():
         yield row(f"{test}_{command}_6", [command, ""], 4, "", "read fault\n")
 
 
+def input_rows():
+    """Rows of what is read of the input, and when."""
+    test = "the_input_is_read_behind_the_set_and_before_a_refusal"
+    yield row(f"{test}_1", bind(SHORT), 0, frame("0a0178"), body="'abc")
+    yield row(f"{test}_2", bind(SHORT), 4, "", "read fault\n", body="'abc", cut=0, left=3)
+    yield row(f"{test}_3", bind(SHORT), 4, "", "read fault\n", body="'abc", cut=1)
+    yield row(f"{test}_4", bind("/other"), 4, "", "read fault\n", body="'abc", cut=0, left=3)
+    yield row(f"{test}_5", bind("/other"), 9, "", f"{UNKNOWN}\n", body="'abc")
+    yield row(f"{test}_6", bind(SHORT), 3, "", "descriptors: Wire at 0 Short\n", ITEMS[:-1], body="'abc", cut=0, left=3)
+    yield row(f"{test}_7", ["bind", "lost.bin", "GET", SHORT], 4, "", "read fault\n", body="'abc", left=3)
+    yield row(f"{test}_8", ["bind", "items.bin", "GET"], 2, "", "usage\n", body="'abc", cut=0, left=3)
+    yield row(f"{test}_9", ["check", "items.bin"], 0, "bindings 1\n", body="'abc", cut=0, left=3)
+    yield row(f"{test}_10", ["routes", "items.bin"], 0, f"{ITEM_ROUTE}\n", body="'abc", cut=0, left=3)
+    yield row(f"{test}_11", bind(SHORT), 5, "", "write fault\n", body="'abc", failing=0)
+    yield row(f"{test}_12", bind(SHORT), 4, "", "read fault\n", body=many(20_000), cut=1, left=20_000 - 16_384)
+    test = "a_body_has_at_most_1048576_bytes"
+    yield row(f"{test}_1", bind(SHORT), 0, frame("0a0178"), body=many(1_048_576))
+    yield row(f"{test}_2", bind(SHORT), 9, "", f"{BODY_TOO_LONG}\n", body=many(1_048_577))
+    yield row(f"{test}_3", bind(SHORT), 9, "", f"{BODY_TOO_LONG}\n", body=many(1_048_578), left=1)
+    yield row(f"{test}_4", bind("/v1/items/%ff"), 9, "", f"{NOT_UTF8}\n", body=many(1_048_577))
+    yield row(f"{test}_5", bind("/other"), 9, "", f"{UNKNOWN}\n", body=many(1_060_000), left=1_060_000 - 1_048_577)
+
+
+ENUM_KIND = 14
+
+# Fields of several kinds, each taken by a variable of its own.
+KINDS = fileset(
+    file(
+        messages=[message(fields=[of("n", 1, INT32), of("b", 2, BOOL), of("e", 3, ENUM_KIND, ".p.E"), of("t", 4, STRING), of("y", 5, BYTES), of("u", 6, UINT64), of("m", 7, MESSAGE, ".p.M")])],
+        more=text(5, enum("E", ("ZERO", 0), ("ONE", 1), ("LOW", -2))),
+        services=[
+            service(
+                methods=[
+                    method("Number", http=rule("/n/{n}")),
+                    method("Bool", http=rule("/b/{b}")),
+                    method("Enum", http=rule("/e/{e}")),
+                    method("Bytes", http=rule("/y/{y}")),
+                    method("Unsigned", http=rule("/u/{u}")),
+                    method("Two", http=rule("/two/{n}/{m.e}")),
+                    method("Star", http=rule("/v1/*")),
+                    method("StarGo", http=rule("/v1/*:go")),
+                    method("A", http=rule("/v1/a")),
+                    method("StarB", http=rule("/v2/*/b")),
+                    method("AStar", http=rule("/v2/a/*")),
+                    method("Rest", http=rule("/v3/**")),
+                    method("Bare", http=rule("/v3")),
+                    method("Posted", http=text(4, "/post/{t}") + text(7, "*")),
+                ]
+            )
+        ],
+    )
+)
+INT32_FAULT = "refused 400 path variable 1: "
+
+# A target over KINDS, the method that is called, and the payload; or what refuses it.
+OF_KINDS = [
+    ("/n/0", "Number", ""),
+    ("/n/7", "Number", "0807"),
+    ("/n/-1", "Number", "08ffffffffffffffffff01"),
+    ("/n/2147483647", "Number", "08ffffffff07"),
+    ("/n/-2147483648", "Number", "0880808080f8ffffffff01"),
+    ("/n/2147483648", INT32_FAULT + "out of range", None),
+    ("/n/-2147483649", INT32_FAULT + "out of range", None),
+    ("/n/1e2", "Number", "0864"),
+    ("/n/1.5", INT32_FAULT + "bad number", None),
+    ("/n/+1", INT32_FAULT + "bad number", None),
+    ("/n/x", INT32_FAULT + "bad number", None),
+    ("/b/true", "Bool", "1001"),
+    ("/b/false", "Bool", ""),
+    ("/b/1", INT32_FAULT + "bad text", None),
+    ("/e/ONE", "Enum", "1801"),
+    ("/e/1", "Enum", "1801"),
+    ("/e/ZERO", "Enum", ""),
+    ("/e/LOW", "Enum", "18feffffffffffffffff01"),
+    ("/e/-2", "Enum", "18feffffffffffffffff01"),
+    ("/e/7", "Enum", "1807"),
+    ("/e/TWO", INT32_FAULT + "bad enum", None),
+    ("/e/one", INT32_FAULT + "bad enum", None),
+    ("/y/AA", NOT_BUILT, None),
+    ("/u/18446744073709551615", "Unsigned", "30ffffffffffffffffff01"),
+    ("/u/18446744073709551616", INT32_FAULT + "out of range", None),
+    ("/u/-1", INT32_FAULT + "out of range", None),
+    ("/two/7/ONE", "Two", "08073a021801"),
+    ("/two/7/ZERO", "Two", "08073a00"),
+    # the first variable that is wrong is told
+    ("/two/x/TWO", INT32_FAULT + "bad number", None),
+    ("/two/7/TWO", "refused 400 path variable 2: bad enum", None),
+    # which of several bindings is chosen
+    ("/v1/a:go", "StarGo", ""),
+    ("/v1/a", "A", ""),
+    ("/v1/a:no", "Star", ""),
+    ("/v2/a/b", "AStar", ""),
+    ("/v3", "Bare", ""),
+    ("/v3/a", "Rest", ""),
+    ("/v3/", UNKNOWN, None),
+    ("/post/x", NOT_ALLOWED, None),
+]
+
+# A method and a target over the library's set, and the payload and the method that is called; or what refuses it.
+OF_LIBRARY = [
+    ("GET", "/v1/shelves/7", "GetShelf", "0a097368656c7665732f37"),
+    ("GET", "/v1/shelves/a%2Fb", "GetShelf", "0a0d7368656c7665732f6125324662"),
+    ("GET", "/v1/x/a%2Fb", "GetItem", "0a03612f62"),
+    ("GET", "/v1/files", "GetFile", ""),
+    ("GET", "/v1/files/a/b", "GetFile", "0a03612f62"),
+    ("GET", "/v1/files/", UNKNOWN, None),
+    ("GET", "/v1/shelves/7/books", "ListBooks", "0a097368656c7665732f37"),
+    ("GET", "http://lib.example/v1/shelves/7", "GetShelf", "0a097368656c7665732f37"),
+    ("GET", "/v1/books", NOT_ALLOWED, None),
+    ("PATCH", "/v1/books/9", NOT_BUILT, None),
+    ("POST", "/v1/books", NOT_BUILT, None),
+    ("POST", "/v1/books:many", NOT_BUILT, None),
+    ("GET", "/v1/shelves/7/books?page=1", NOT_BUILT, None),
+    ("HEAD", "/v1/shelves/7", NOT_SERVED, None),
+]
+
+
+def request_rows():
+    """Rows of requests over sets of several methods."""
+    for at, (target, called, payload) in enumerate(OF_KINDS, 1):
+        label, words = f"values_are_read_and_routes_chosen_{at}", bind(target)
+        if payload is None:
+            yield row(label, words, 9, "", f"{called}\n", KINDS)
+        else:
+            yield row(label, words, 0, frame(payload, f"/p.S/{called}"), data=KINDS)
+    yield row("values_are_read_and_routes_chosen:a_body_is_not_built", bind("/post/x", "POST"), 9, "", f"{NOT_BUILT}\n", KINDS)
+    for at, (method_word, target, called, payload) in enumerate(OF_LIBRARY, 1):
+        label, words = f"the_library_is_served_{at}", bind(target, method_word)
+        if payload is None:
+            yield row(label, words, 9, "", f"{called}\n", LIB)
+        else:
+            yield row(label, words, 0, frame(payload, f"/lib.v1.Library/{called}"), data=LIB)
+
+
 def bind_rows():
     for at, (target, payload) in enumerate(BOUND, 1):
         yield row(f"bound_requests_print_their_frame_{at}", bind(target), 0, frame(payload))
     for at, (method, target, why) in enumerate(REFUSED, 1):
-        yield row(f"refused_requests_print_one_line_{at}", bind(target, method), 9, "", f"refused {why}\n")
-    test = "a_target_has_at_most_16384_bytes"
+        yield row(f"refused_requests_print_one_line_{at}", bind(target, method), 9, "", f"{why}\n")
+    test = "a_target_is_of_any_length"
     long = "/v1/items/" + "x" * 16_374
     yield row(f"{test}_1", bind(long), 0, frame("0af67f" + "78" * 16_374))
-    yield row(f"{test}_2", bind(long + "x"), 9, "", "refused 501 not built\n")
+    yield row(f"{test}_2", bind(long + "x"), 0, frame("0af77f" + "78" * 16_375))
     test = "a_set_has_at_most_16777216_bytes"
     yield row(f"{test}_1", bind(SHORT), 0, frame("0a0178"), data=padded(16_777_216))
     yield row(f"{test}_2", bind(SHORT), 3, "", "descriptors: TooLong\n", padded(16_777_217))
@@ -362,25 +534,30 @@ def bind_rows():
     yield row(f"{test}_4", bind(SHORT), 5, "", "write fault\n", room=0)
     yield row(f"{test}_5", bind(SHORT), 5, whole[:10], "write fault\n", room=10)
     for label, data, target, verdict in CASES:
+        path, payload = OTHER_ANSWERS.get(label, ("/p.S/Get", "0a0178"))
         label = f"each_fault_and_each_point_of_the_form_is_judged:{label}"
         if verdict == READ:
-            path, payload = OTHER_ANSWERS.get(label.split(":")[1], ("/p.S/Get", "0a0178"))
             yield row(label, bind(target), 0, frame(payload, path), data=data)
-        elif verdict == NOT_BUILT:
-            yield row(label, bind(target), 9, "", f"refused {REFUSED_NOT_BUILT}\n", data)
+        elif verdict.startswith("means "):
+            yield row(label, bind(target), 0, frame(verdict.split()[1]), data=data)
+        elif verdict.startswith("refused "):
+            yield row(label, bind(target), 9, "", f"{verdict}\n", data)
         else:
             yield row(label, bind(target), 3, "", f"descriptors: {verdict}\n", data)
-    for at, (method_word, target) in enumerate([("GET", SHORT), ("POST", SHORT), ("GET", "/other"), ("GET", "/v1/items/%ff")], 1):
+    for at, (method_word, target, why) in enumerate([("GET", SHORT, UNKNOWN), ("POST", f"{SHORT}:go", NOT_ALLOWED), ("GET", "/v1/items/%ff:go", NOT_UTF8)], 1):
         words = bind(target, method_word)
-        yield row(f"sets_of_another_form_are_not_built_{at}", words, 9, "", f"refused {REFUSED_NOT_BUILT}\n", of_rule("/v1/items/{id}:go"))
+        yield row(f"verbs_are_judged_{at}", words, 9, "", f"{why}\n", of_rule("/v1/items/{id}:go"))
+    yield row("verbs_are_judged_4", bind(f"{SHORT}:go"), 0, frame("0a0178"), data=of_rule("/v1/items/{id}:go"))
     test, short_set = "the_set_counts_before_the_request_and_the_request_before_writing", ITEMS[:-1]
     yield row(f"{test}_1", bind(SHORT, "POST"), 3, "", "descriptors: Wire at 0 Short\n", short_set, failing=0)
     yield row(f"{test}_2", ["bind", "lost.bin", "POST", SHORT], 4, "", "read fault\n", short_set, failing=0)
-    yield row(f"{test}_3", bind(SHORT, "POST"), 9, "", f"refused {REFUSED_NOT_BUILT}\n", failing=0)
-    yield row(f"{test}_4", bind("/other"), 9, "", f"refused {UNKNOWN}\n", failing=0)
+    yield row(f"{test}_3", bind(SHORT, "POST"), 9, "", f"{NOT_ALLOWED}\n", failing=0)
+    yield row(f"{test}_4", bind("/other"), 9, "", f"{UNKNOWN}\n", failing=0)
     yield row(f"{test}_5", ["check", "items.bin"], 3, "", "descriptors: Wire at 0 Short\n", short_set, failing=0)
     yield row(f"{test}_6", ["routes", "lost.bin"], 4, "", "read fault\n", failing=0)
     yield row(f"{test}_7", ["bind", "lost.bin", "G T", SHORT], 2, "", "usage\n", failing=0)
+    yield from input_rows()
+    yield from request_rows()
     yield from told_rows()
 
 

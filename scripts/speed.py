@@ -1,4 +1,4 @@
-"""How fast the parts are: runs the program `speed`, and `check` over large sets, and prints a table. It is no check: it fails
+"""How fast the parts are: runs the program `speed`, `check` over large sets and requests over sets, and prints a table. It is no check: it fails
 on nothing.
 
 Usage: python3 scripts/speed.py [MIB]
@@ -11,6 +11,7 @@ import time
 
 import program
 from big_sets import bound_types, like_scopes, many_bindings, many_variables, named_messages, under_scope
+from library_set import LIB
 from set_parts import a_set
 
 ROWS = [
@@ -34,12 +35,16 @@ SETS = [
 ]
 
 
-def shortest(words):
-    """The shortest of three runs."""
+# Requests of the library's set that `bind` takes: a method and a target.
+REQUESTS = [("GET", "/v1/shelves/7"), ("GET", "/v1/files/a/b"), ("GET", "/v1/x/a%2Fb"), ("GET", "/v1/shelves/7/books")]
+
+
+def shortest(words, given=b""):
+    """The shortest of three runs with this input."""
     best = None
     for _ in range(3):
         start = time.monotonic()
-        subprocess.run(words, stdin=subprocess.DEVNULL, stdout=subprocess.DEVNULL, check=True)
+        subprocess.run(words, input=given, stdout=subprocess.DEVNULL, check=True)
         taken = time.monotonic() - start
         best = taken if best is None else min(best, taken)
     return best
@@ -67,6 +72,22 @@ def print_sets():
             print(f"{large:,} {title} linked in {many:.3f} s, {small:,} in {few:.3f} s: {many / max(few, 0.0005):.1f} times as long")
 
 
+def rounds(path, what, count, given, method, target):
+    """The time of one round of a request over a set, by so many rounds and by one."""
+    first, many = (shortest([path, what, str(n), method, target], given) for n in (1, count))
+    return (many - first) / (count - 1)
+
+
+def print_requests(path):
+    """The times of a route among many bindings, the last of which it is, and of requests of the library's set."""
+    for bindings in [10, 100, 1_000]:
+        taken = rounds(path, "route", 2_000_000 // bindings, many_bindings(bindings), "GET", f"/v1/b{bindings - 2}/x")
+        print(f"a route among {bindings:,} bindings: {taken * 1e6:.2f} microseconds")
+    for method, target in REQUESTS:
+        taken = rounds(path, "bind", 200_000, LIB, method, target)
+        print(f"{method} {target} of the library: {1 / taken:,.0f} a second")
+
+
 def main():
     size = int(sys.argv[1]) if len(sys.argv) > 1 else 64
     path = program.built("speed")
@@ -75,6 +96,7 @@ def main():
         print(f"{title}: {size} MiB in {taken:.2f} s, {size * 1.048576 / taken:.0f} MB/s")
     for items in [100_000, 200_000, 400_000]:
         print(f"{items:,} list items twice and {items // 10:,} map entries by falling key: {seconds(path, 'many', items):.3f} s")
+    print_requests(path)
     print_sets()
 
 

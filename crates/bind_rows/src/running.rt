@@ -1,7 +1,9 @@
 //! One run over files and streams in memory.
 
 use base::{Blob, List, NoMemory, Text};
-use gateway_run::{FixedFiles, FixedSink, FixedSource, NamedBytes, NoFields, Status, run_offline};
+use gateway_run::{
+    FixedFiles, FixedSink, FixedSource, NamedBytes, NoFields, Read, Source, Status, run_offline,
+};
 use rows::{Row, kept};
 use std::alloc::Global;
 use std::io;
@@ -39,18 +41,39 @@ fn one_file(alloc: Global, bytes: Vec<u8>) -> Result<FixedFiles, NoMemory> {
     Ok(FixedFiles::new(named, List::new(alloc)))
 }
 
-/// The status, and what was written.
-fn told(alloc: Global, status: Status, out: &FixedSink, err: &FixedSink) -> io::Result<String> {
+/// How many bytes of an input are left, which are read to its end.
+fn left_of(input: &mut FixedSource) -> usize {
+    let mut piece = [0u8; 4096];
+    let mut left = 0usize;
+    for _ in 0..u32::MAX {
+        match input.read(&mut piece) {
+            Read::Bytes(n) => left = left.saturating_add(n),
+            Read::End => return left,
+            Read::Failed => {}
+        }
+    }
+    left
+}
+
+/// The status, what was written, and how many bytes of the input are left.
+fn told(
+    alloc: Global,
+    status: Status,
+    out: &FixedSink,
+    err: &FixedSink,
+    left: usize,
+) -> io::Result<String> {
     let out = std::str::from_utf8(out.bytes()).unwrap_or("not UTF-8");
     let err = std::str::from_utf8(err.bytes()).unwrap_or("not UTF-8");
-    Ok(format!(in alloc; "{} {out:?} {err:?}", status.number())?)
+    Ok(format!(in alloc; "{} {out:?} {err:?} {left}", status.number())?)
 }
 
 /// What a run of the words of a row told.
 pub(crate) fn ran(alloc: Global, room: usize, failing: &str, row: &mut Row) -> io::Result<String> {
     let mut files = kept(one_file(alloc, row.bytes(alloc)?))?;
+    let body = Blob::from_vec(row.bytes(alloc)?);
+    let mut input = FixedSource::new(body, kept(fails(alloc, row.word()))?);
     let words = words_of(alloc, row)?;
-    let mut input = FixedSource::new(Blob::new(alloc), List::new(alloc));
     let mut out = kept(FixedSink::new(alloc, room, kept(fails(alloc, failing))?))?;
     let mut err = kept(FixedSink::new(alloc, 256, List::new(alloc)))?;
     let status = run_offline(
@@ -62,5 +85,5 @@ pub(crate) fn ran(alloc: Global, room: usize, failing: &str, row: &mut Row) -> i
         &mut err,
         NoFields,
     );
-    told(alloc, status, &out, &err)
+    told(alloc, status, &out, &err, left_of(&mut input))
 }

@@ -14,8 +14,9 @@ use Rattle.gate_world.specs.Causes.{Rose}
 use Rattle.gate_world.specs.Refusals.{detail_text, value_fault_text}
 use Rattle.gate_world.specs.Sinks.{Gains, GainsPart}
 use Rattle.gate_world.specs.declared.refusal.Detail.{Detail}
-use Rattle.gateway_run.specs.RefusalLines.{cause_of, refusal_detail, refusal_line, refusal_status, text_of}
-use Rattle.gateway_run.specs.declared.refusal.RequestRefusal.{RequestRefusal}
+use Rattle.gateway_run.specs.RefusalLines.{refusal_line}
+use Rattle.transcoding.specs.RequestRefusals.{cause_of, refusal_detail, refusal_status, text_of}
+use Rattle.transcoding.specs.declared.refusal.RequestRefusal.{RequestRefusal}
 use Rattle.std.specs.Option.{option_map_or}
 
 -- one after another, both are gained
@@ -90,3 +91,12 @@ detail_line r d status cause number fault e es ec en ef =
     ∙ append_assoc (cause_of r) (detail_text d) (codes "\n")
     ∙ ap (λ z. cause_of r ++ z) (append_assoc (decimal d.at) (codes ": " ++ value_fault_text d.fault) (codes "\n")) in
     rw (es, ec, en, ef) (ap (λ z. codes "refused " ++ (decimal (refusal_status r) ++ (codes " " ++ z))) text)
+
+-- ---- the lines of messages
+
+-- a line that was put goes on with those of the rest
+pub one_more_line : (line : List ℕ → List ℕ) (ms rest : List (List ℕ)) (m all out new : List ℕ) → ms ≡ m ∷ rest
+    → new ≡ out ++ line m → out ++ flat_map line ms ≡ all → new ++ flat_map line rest ≡ all
+one_more_line line ms rest m all out new e n h =
+    ap (λ z. z ++ flat_map line rest) n ∙ append_assoc out (line m) (flat_map line rest)
+    ∙ ap (λ z. out ++ flat_map line z) (sym e) ∙ h

@@ -12,13 +12,15 @@ use Rattle.gateway_run.specs.CommandOutput.{IsOutput, IsRefusedBy, Prints, Refus
 use Rattle.gateway_run.specs.Commands.{Command, set_of}
 use Rattle.gateway_run.specs.DeclaredApi.{Declares, IsUnserved}
 use Rattle.gateway_run.specs.DescriptorLines.{descriptor_line}
+use Rattle.gateway_run.specs.InputReading.{FollowsInput, IsBind, IsServed, MayRead, OfInput}
 use Rattle.gateway_run.specs.Outcomes.{Answers, AnswersTold, Gives, IsLine, Ran, status_of, stop_line, stop_status, unlinked_stop, unread_stop}
 use Rattle.gateway_run.specs.RefusalLines.{refusal_line}
 use Rattle.gateway_run.specs.declared.descriptor_fault.DescriptorFault.{DescriptorFault}
 use Rattle.gateway_run.specs.declared.descriptor_fault.DescriptorFault.TheVariants as faults
-use Rattle.gateway_run.specs.declared.refusal.RequestRefusal.{RequestRefusal}
+use Rattle.transcoding.specs.declared.refusal.RequestRefusal.{RequestRefusal}
 use Rattle.gateway_run.specs.declared.status.Stop.{Stop}
 use Rattle.gateway_run.specs.declared.status.Stop.TheVariants as stop
+use Rattle.gateway_run.specs.declared.status.Status.{Status}
 use Rattle.gateway_run.specs.declared.status.Status.TheVariants as status
 use Rattle.linked_api.specs.declared.api.Api.{Api}
 use Rattle.schema_link.specs.LinkAnswers.{IsLinkOf}
@@ -102,19 +104,22 @@ unserved_told : (told : Option (List ℕ)) (bytes : List ℕ) (f : DescriptorFau
 unserved_told None bytes f e h = tt
 unserved_told (Some file) bytes f e h = file_unserved file bytes f e h
 
-refused_told : (told : Option (List ℕ)) (bytes : List ℕ) (c : Command) (r : RequestRefusal) (api : Api)
-    → IfSome told (λ file. bytes ≡ take 16777217 file) → Declares bytes api → Refuses api c r
-    → IfSome told (λ file. IsRefusedBy file c r)
-refused_told None bytes c r api f d h = tt
-refused_told (Some file) bytes c r api f d h =
-    record { api = api; declares = file_declares file bytes api f d; refuses = h }
+refused_told : (told : Option (List ℕ)) (bytes : List ℕ) (c : Command) (left : Option (List ℕ)) (r : RequestRefusal)
+    (api : Api)
+    → IfSome told (λ file. bytes ≡ take 16777217 file) → Declares bytes api
+    → OfInput left (λ held. Refuses api c held r)
+    → IfSome told (λ file. OfInput left (λ held. IsRefusedBy file held c r))
+refused_told None bytes c left r api f d h = tt
+refused_told (Some file) bytes c left r api f d h =
+    (h.0, h.1, record { api = api; declares = file_declares file bytes api f d; refuses = h.2 })
 
-output_told : (told : Option (List ℕ)) (bytes : List ℕ) (c : Command) (out : List ℕ) (api : Api)
-    → IfSome told (λ file. bytes ≡ take 16777217 file) → Declares bytes api → Prints api c out
-    → IfSome told (λ file. IsOutput file c out)
-output_told None bytes c out api f d p = tt
-output_told (Some file) bytes c out api f d p =
-    record { api = api; declares = file_declares file bytes api f d; prints = p }
+output_told : (told : Option (List ℕ)) (bytes : List ℕ) (c : Command) (left : Option (List ℕ)) (out : List ℕ)
+    (api : Api) → IfSome told (λ file. bytes ≡ take 16777217 file) → Declares bytes api
+    → OfInput left (λ held. Prints api c held out)
+    → IfSome told (λ file. OfInput left (λ held. IsOutput file held c out))
+output_told None bytes c left out api f d p = tt
+output_told (Some file) bytes c left out api f d p =
+    (p.0, p.1, record { api = api; declares = file_declares file bytes api f d; prints = p.2 })
 
 -- a set that is not linked
 pub link_stops : {A B : Type 0} (G : A → Type 0) (H : B → Type 0) (R : RequestRefusal → Type 0) (F : Type 0)
@@ -130,34 +135,63 @@ link_stops G H R F told bytes f stop.NoMemory g = tt
 link_stops G H R F told bytes f (stop.Refused r) g = absurd g
 
 -- what a command prints of what bytes declare, said of the file
-pub api_gives : {Z : Type 0} (F : Type 0) (told : Option (List ℕ)) (bytes : List ℕ) (c : Command) (api : Api)
-    → IfSome told (λ file. bytes ≡ take 16777217 file) → Declares bytes api → (r : Result (Vec ℕ Z) Stop)
-    → Gives (λ (out : Vec ℕ Z). Prints api c out.items) (λ _. ⊥) (Refuses api c) ⊥ r
-    → Gives (λ (out : Vec ℕ Z). IfSome told (λ file. IsOutput file c out.items))
-    (λ q. IfSome told (λ file. IsUnserved file q)) (λ q. IfSome told (λ file. IsRefusedBy file c q)) F r
-api_gives F told bytes c api f d (Ok out) g = output_told told bytes c out.items api f d g
-api_gives F told bytes c api f d (Err stop.Usage) g = absurd g
-api_gives F told bytes c api f d (Err (stop.Descriptors fault)) g = absurd g
-api_gives F told bytes c api f d (Err stop.ReadFault) g = absurd g
-api_gives F told bytes c api f d (Err stop.WriteFault) g = absurd g
-api_gives F told bytes c api f d (Err stop.NoMemory) g = tt
-api_gives F told bytes c api f d (Err (stop.Refused r)) g = refused_told told bytes c r api f d g
+pub api_gives : {Z : Type 0} (F G : Type 0) (told : Option (List ℕ)) (bytes : List ℕ) (c : Command)
+    (left : Option (List ℕ)) (api : Api)
+    → IfSome told (λ file. bytes ≡ take 16777217 file) → Declares bytes api → (G → F) → (r : Result (Vec ℕ Z) Stop)
+    → Gives (λ (out : Vec ℕ Z). OfInput left (λ held. Prints api c held out.items)) (λ _. ⊥)
+    (λ q. OfInput left (λ held. Refuses api c held q)) G r
+    → Gives (λ (out : Vec ℕ Z). IfSome told (λ file. OfInput left (λ held. IsOutput file held c out.items)))
+    (λ q. IfSome told (λ file. IsUnserved file q))
+    (λ q. IfSome told (λ file. OfInput left (λ held. IsRefusedBy file held c q))) F r
+api_gives F G told bytes c left api f d k (Ok out) g = output_told told bytes c left out.items api f d g
+api_gives F G told bytes c left api f d k (Err stop.Usage) g = absurd g
+api_gives F G told bytes c left api f d k (Err (stop.Descriptors fault)) g = absurd g
+api_gives F G told bytes c left api f d k (Err stop.ReadFault) g = k g
+api_gives F G told bytes c left api f d k (Err stop.WriteFault) g = absurd g
+api_gives F G told bytes c left api f d k (Err stop.NoMemory) g = tt
+api_gives F G told bytes c left api f d k (Err (stop.Refused r)) g = refused_told told bytes c left r api f d g
+
+-- a file whose front declares an API is served
+served_told : (told : Option (List ℕ)) (bytes : List ℕ) (api : Api)
+    → IfSome told (λ file. bytes ≡ take 16777217 file) → Declares bytes api → IfSome told IsServed
+served_told None bytes api f d = tt
+served_told (Some file) bytes api f d = (api, file_declares file bytes api f d)
+
+-- `bind` of a set that was read and declares an API may read its input
+pub may_read : (c : Command) (files : Option FileMap) (s : Status) (bytes : List ℕ) (api : Api)
+    → (IsMissing files (set_of c) → ⊥) → IfSome (told_file files (set_of c)) (λ file. bytes ≡ take 16777217 file)
+    → Declares bytes api → IsBind c → FollowsInput s → MayRead (Some c) files s
+may_read c files s bytes api n f d b h = record {
+  words = b.0;
+  command_is = ap Some b.1;
+  there = λ m. n (subst (λ z. IsMissing files z) (sym (ap set_of b.1)) m);
+  served = subst (λ z. IfSome (told_file files z) IsServed) (ap set_of b.1) (served_told _ bytes api f d);
+  status = h;
+}
 
 -- ---- what a status says
 
-any_told : (told : Option (List ℕ)) → IfSome told (λ file. Unit {0})
-any_told None = tt
-any_told (Some file) = tt
+-- an input holds some bytes
+some_input : (left : Option (List ℕ)) → OfInput left (λ _. Unit {0})
+some_input None = ([], tt, tt)
+some_input (Some held) = (held, refl, tt)
 
-fault_told : (told : Option (List ℕ)) (f : DescriptorFault) → IfSome told (λ file. IsUnserved file f)
-    → IfSome told (λ file. (g : DescriptorFault) × IsUnserved file g × (descriptor_line f ≡ descriptor_line g))
-fault_told None f h = tt
-fault_told (Some file) f h = (f, h, refl)
+any_told : (told left : Option (List ℕ)) → IfSome told (λ file. OfInput left (λ _. Unit {0}))
+any_told None left = tt
+any_told (Some file) left = some_input left
 
-refusal_told : (told : Option (List ℕ)) (c : Command) (r : RequestRefusal) → IfSome told (λ file. IsRefusedBy file c r)
-    → IfSome told (λ file. (q : RequestRefusal) × IsRefusedBy file c q × (refusal_line r ≡ refusal_line q))
-refusal_told None c r h = tt
-refusal_told (Some file) c r h = (r, h, refl)
+fault_told : (told left : Option (List ℕ)) (f : DescriptorFault) → IfSome told (λ file. IsUnserved file f)
+    → IfSome told (λ file. OfInput left
+    (λ _. (g : DescriptorFault) × IsUnserved file g × (descriptor_line f ≡ descriptor_line g)))
+fault_told None left f h = tt
+fault_told (Some file) left f h = let i = some_input left in (i.0, i.1, (f, h, refl))
+
+refusal_told : (told left : Option (List ℕ)) (c : Command) (r : RequestRefusal)
+    → IfSome told (λ file. OfInput left (λ held. IsRefusedBy file held c r))
+    → IfSome told (λ file. OfInput left
+    (λ held. (q : RequestRefusal) × IsRefusedBy file held c q × (refusal_line r ≡ refusal_line q)))
+refusal_told None left c r h = tt
+refusal_told (Some file) left c r h = (h.0, h.1, (r, h.2, refl))
 
 -- where the set is missing, a command stopped for that
 missing_stops : {A : Type 0} (e : Stop) (Missing : Type 0)
@@ -166,38 +200,40 @@ missing_stops {A = A} e Missing m h = ap (status_of {A = A}) (m h)
 
 -- a command that stopped before it wrote
 pub stopped : {A : Type 0} (G : A → Type 0) (F : Type 0) (c : Command) (files : Option FileMap)
-    (old new : Option (List ℕ)) (e : Stop)
+    (left old new : Option (List ℕ)) (e : Stop)
     → Gives {A = A} G (λ f. IfSome (told_file files (set_of c)) (λ file. IsUnserved file f))
-    (λ r. IfSome (told_file files (set_of c)) (λ file. IsRefusedBy file c r)) F (Err e)
+    (λ r. IfSome (told_file files (set_of c)) (λ file. OfInput left (λ held. IsRefusedBy file held c r))) F (Err e)
     → (IsMissing files (set_of c) → ◌≡◌ {A = Result A Stop} (Err e) (Err stop.ReadFault))
-    → AnswersTold (Some c) files (stop_status e) (stop_line e) old new
-stopped G F c files old new e g m =
-    (stopped_told G F c (told_file files (set_of c)) old new e g, missing_stops e (IsMissing files (set_of c)) m)
+    → AnswersTold (Some c) files left (stop_status e) (stop_line e) old new
+stopped G F c files left old new e g m =
+    (stopped_told G F c (told_file files (set_of c)) left old new e g, missing_stops e (IsMissing files (set_of c)) m)
   where
-    stopped_told : {A : Type 0} (G : A → Type 0) (F : Type 0) (c : Command) (told old new : Option (List ℕ)) (e : Stop)
+    stopped_told : {A : Type 0} (G : A → Type 0) (F : Type 0) (c : Command) (told left old new : Option (List ℕ))
+        (e : Stop)
         → Gives {A = A} G (λ f. IfSome told (λ file. IsUnserved file f))
-        (λ r. IfSome told (λ file. IsRefusedBy file c r)) F (Err e)
-        → IfSome told (λ file. Answers file c (stop_status e) (stop_line e) old new)
-    stopped_told G F c told old new stop.Usage g = absurd g
-    stopped_told G F c told old new (stop.Descriptors f) g = fault_told told f g
-    stopped_told G F c told old new stop.ReadFault g = any_told told
-    stopped_told G F c told old new stop.WriteFault g = absurd g
-    stopped_told G F c told old new stop.NoMemory g = any_told told
-    stopped_told G F c told old new (stop.Refused r) g = refusal_told told c r g
+        (λ r. IfSome told (λ file. OfInput left (λ held. IsRefusedBy file held c r))) F (Err e)
+        → IfSome told (λ file. OfInput left (λ held. Answers file held c (stop_status e) (stop_line e) old new))
+    stopped_told G F c told left old new stop.Usage g = absurd g
+    stopped_told G F c told left old new (stop.Descriptors f) g = fault_told told left f g
+    stopped_told G F c told left old new stop.ReadFault g = any_told told left
+    stopped_told G F c told left old new stop.WriteFault g = absurd g
+    stopped_told G F c told left old new stop.NoMemory g = any_told told left
+    stopped_told G F c told left old new (stop.Refused r) g = refusal_told told left c r g
 
 -- its output was written whole, or in part
-pub wrote : (told : Option (List ℕ)) (c : Command) (out : List ℕ) (old new : Option (List ℕ))
-    → IfSome told (λ file. IsOutput file c out) → Gains old new out
-    → IfSome told (λ file. (bytes : List ℕ) × IsOutput file c bytes × Gains old new bytes)
-wrote None c out old new h g = tt
-wrote (Some file) c out old new h g = (out, h, g)
+pub wrote : (told left : Option (List ℕ)) (c : Command) (out : List ℕ) (old new : Option (List ℕ))
+    → IfSome told (λ file. OfInput left (λ held. IsOutput file held c out)) → Gains old new out
+    → IfSome told (λ file. OfInput left (λ held. (bytes : List ℕ) × IsOutput file held c bytes × Gains old new bytes))
+wrote None left c out old new h g = tt
+wrote (Some file) left c out old new h g = (h.0, h.1, (out, h.2, g))
 
 -- the same of a part of it
-pub wrote_part : (told : Option (List ℕ)) (c : Command) (out : List ℕ) (old new : Option (List ℕ))
-    → IfSome told (λ file. IsOutput file c out) → GainsPart old new out
-    → IfSome told (λ file. (bytes : List ℕ) × IsOutput file c bytes × GainsPart old new bytes)
-wrote_part None c out old new h g = tt
-wrote_part (Some file) c out old new h g = (out, h, g)
+pub wrote_part : (told left : Option (List ℕ)) (c : Command) (out : List ℕ) (old new : Option (List ℕ))
+    → IfSome told (λ file. OfInput left (λ held. IsOutput file held c out)) → GainsPart old new out
+    → IfSome told (λ file. OfInput left
+    (λ held. (bytes : List ℕ) × IsOutput file held c bytes × GainsPart old new bytes))
+wrote_part None left c out old new h g = tt
+wrote_part (Some file) left c out old new h g = (h.0, h.1, (out, h.2, g))
 
 -- ---- the line
 

@@ -5,11 +5,14 @@ use Rattle.gate_world.specs.ToldFiles.{FileMap, IsMissing, told_file}
 use Rattle.gateway_run.specs.CommandOutput.{IsOutput, IsRefusedBy}
 use Rattle.gateway_run.specs.Commands.{Command, set_of}
 use Rattle.gateway_run.specs.DeclaredApi.{IsUnserved}
+use Rattle.gateway_run.specs.InputReading.{OfInput}
 use Rattle.gateway_run.specs.RefusalLines.{refusal_line}
 use Rattle.gateway_run.specs.DescriptorLines.{descriptor_line}
 use Rattle.gateway_run.specs.declared.descriptor_fault.DescriptorFault.{DescriptorFault}
 use Rattle.gateway_run.specs.declared.descriptor_fault.DescriptorFault.TheVariants as faults
-use Rattle.gateway_run.specs.declared.refusal.RequestRefusal.{RequestRefusal}
+use Rattle.transcoding.specs.declared.refusal.RequestRefusal.{RequestRefusal}
+use Rattle.transcoding.specs.declared.refusal.RequestRefusal.TheVariants.{Listed}
+use Rattle.gate_world.specs.declared.refusal.Refusal.TheVariants as table
 use Rattle.descriptor_set.specs.declared.fault.SetFault.{SetFault}
 use Rattle.descriptor_set.specs.declared.fault.SetFault.TheVariants as unread
 use Rattle.set_faults.specs.declared.fault.LinkFault.{LinkFault}
@@ -60,6 +63,11 @@ abbrev pub unlinked_stop : LinkFault → Stop
 unlinked_stop (link.At kind name second) = stop.Descriptors (faults.Unlinked kind name second)
 unlinked_stop link.NoMemory = stop.NoMemory
 
+-- a command stops so for a refusal: for want of memory where that is the cause, and else with its request refused
+pub record StopsFor (r : RequestRefusal) (e : Stop) : Type 0 where
+  pub memory : r ≡ Listed table.NoMemory → e ≡ stop.NoMemory
+  pub refused : (r ≡ Listed table.NoMemory → ⊥) → e ≡ stop.Refused r
+
 -- its line
 abbrev pub stop_line : Stop → List ℕ
 stop_line stop.Usage = codes "usage\n"
@@ -69,23 +77,30 @@ stop_line stop.WriteFault = codes "write fault\n"
 stop_line stop.NoMemory = codes "out of memory\n"
 stop_line (stop.Refused r) = refusal_line r
 
--- what a status says of the set's file and the command: with Done the output was written whole, with
+-- what a status says of the set's file, the input and the command: with Done the output was written whole, with
 -- WriteFault a prefix of it that is not all; Descriptors where the set has a fault, and the line is that of the
 -- fault; Refused where the command's request is, and the line is that of the refusal
-abbrev pub Answers : List ℕ → Command → Status → List ℕ → Option (List ℕ) → Option (List ℕ) → Type 0
-Answers file c status.Done line old new = (bytes : List ℕ) × IsOutput file c bytes × Gains old new bytes
-Answers file c status.Usage line old new = ⊥
-Answers file c status.Descriptors line old new = (f : DescriptorFault) × IsUnserved file f × (line ≡ descriptor_line f)
-Answers file c status.ReadFault line old new = Unit {0}
-Answers file c status.WriteFault line old new = (bytes : List ℕ) × IsOutput file c bytes × GainsPart old new bytes
-Answers file c status.NoMemory line old new = Unit {0}
-Answers file c status.Refused line old new = (r : RequestRefusal) × IsRefusedBy file c r × (line ≡ refusal_line r)
+abbrev pub Answers : List ℕ → List ℕ → Command → Status → List ℕ → Option (List ℕ) → Option (List ℕ) → Type 0
+Answers file input c status.Done line old new =
+    (bytes : List ℕ) × IsOutput file input c bytes × Gains old new bytes
+Answers file input c status.Usage line old new = ⊥
+Answers file input c status.Descriptors line old new =
+    (f : DescriptorFault) × IsUnserved file f × (line ≡ descriptor_line f)
+Answers file input c status.ReadFault line old new = Unit {0}
+Answers file input c status.WriteFault line old new =
+    (bytes : List ℕ) × IsOutput file input c bytes × GainsPart old new bytes
+Answers file input c status.NoMemory line old new = Unit {0}
+Answers file input c status.Refused line old new =
+    (r : RequestRefusal) × IsRefusedBy file input c r × (line ≡ refusal_line r)
 
--- the answer to a command where the set's file is told: that of its bytes, and ReadFault where it is missing
-abbrev pub AnswersTold : Option Command → Option FileMap → Status → List ℕ → Option (List ℕ) → Option (List ℕ) → Type 0
-AnswersTold None files s line old new = Unit {0}
-AnswersTold (Some c) files s line old new =
-    IfSome (told_file files (set_of c)) (λ file. Answers file c s line old new) × (IsMissing files (set_of c) → s ≡ status.ReadFault)
+-- the answer to a command where the set's file is told: that of its bytes and of what the input holds, and ReadFault
+-- where it is missing
+abbrev pub AnswersTold : Option Command → Option FileMap → Option (List ℕ) → Status → List ℕ → Option (List ℕ)
+    → Option (List ℕ) → Type 0
+AnswersTold None files told s line old new = Unit {0}
+AnswersTold (Some c) files told s line old new =
+    IfSome (told_file files (set_of c)) (λ file. OfInput told (λ input. Answers file input c s line old new))
+    × (IsMissing files (set_of c) → s ≡ status.ReadFault)
 
 -- a run that ended so: its line stands on `err`, where its count of faults did not rise, and the status
 -- answers the command

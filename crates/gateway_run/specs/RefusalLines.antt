@@ -1,29 +1,7 @@
 -- The line on standard error that tells why a request is refused.
-use Rattle.std.specs.Prelude.{◌++◌, ℕ, List, [], codes, decimal, Option, None}
-use Rattle.std.specs.Option.{option_map_or}
-use Rattle.gate_world.specs.Refusals.{detail_of, detail_text, row_of}
-use Rattle.gate_world.specs.declared.refusal.Detail.{Detail}
-use Rattle.gateway_run.specs.declared.refusal.RequestRefusal.{RequestRefusal}
-use Rattle.gateway_run.specs.declared.refusal.RequestRefusal.TheVariants.{NotBuilt, Listed}
-
--- the HTTP status: that of the table, and 501 for a form that is not built yet
-abbrev pub refusal_status : RequestRefusal → ℕ
-refusal_status NotBuilt = 501
-refusal_status (Listed r) = (row_of r).http_status
-
--- the text of the cause
-abbrev pub cause_of : RequestRefusal → List ℕ
-cause_of NotBuilt = codes "not built"
-cause_of (Listed r) = (row_of r).cause
-
--- the value that is named behind it
-abbrev pub refusal_detail : RequestRefusal → Option Detail
-refusal_detail NotBuilt = None
-refusal_detail (Listed r) = detail_of r
-
--- the text of a refusal, which for one of the table is `refusal_text`
-abbrev pub text_of : RequestRefusal → List ℕ
-text_of r = cause_of r ++ option_map_or detail_text (refusal_detail r) []
+use Rattle.std.specs.Prelude.{◌++◌, ℕ, List, codes, decimal}
+use Rattle.transcoding.specs.RequestRefusals.{refusal_status, text_of}
+use Rattle.transcoding.specs.declared.refusal.RequestRefusal.{RequestRefusal}
 
 -- the line of a refusal: its HTTP status in decimal, and its text
 abbrev pub refusal_line : RequestRefusal → List ℕ

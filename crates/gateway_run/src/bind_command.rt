@@ -1,23 +1,22 @@
-//! The command `bind SET METHOD TARGET`: the gRPC path and the framed message that a request means.
-ghost use Rattle.std.specs.Prelude.{◌≡◌, ◌<◌, ◌^◌, ◌++◌, length, IfOk, OnOk};
-ghost use Rattle.gateway_run.specs.CommandOutput.{IsBindOutput, IsBindRefusal};
+//! The command `bind SET METHOD TARGET`: the gRPC path and the framed messages that a request means.
+ghost use Rattle.std.specs.Prelude.{◌≡◌, ◌≤◌, ◌++◌, length, IfOk, OnOk};
+ghost use Rattle.std.specs.List.{AllByRecursion, flat_map};
+ghost use Rattle.gateway_run.specs.CommandOutput.{IsBindOutput, IsBindRefusal, message_line, output};
 ghost use Rattle.gateway_run.specs.CommandViews.{bind_view};
-ghost use Rattle.gateway_run.specs.OneRoute.{SetsString, simple_route};
 ghost use Rattle.gateway_run.specs.Outcomes.{Gives};
-ghost use Rattle.gateway_run.specs.RequestMeaning.{IsPrinted, IsRefusal, output};
-ghost use Rattle.gateway_run.specs.RouteView.{route_view};
 ghost use Rattle.hex.specs.Hex.{encode_lower};
 ghost use Rattle.linked_api.specs.LinkedApi.{IsLinked};
+ghost use Rattle.transcoding.specs.TranscodedView.{transcoded_view};
 
-use crate::binding::bind;
 use crate::command::Bind;
-use crate::one_route::{Route, simple_route};
-use crate::refusal::RequestRefusal;
 use crate::status::Stop;
-use base::NoMemory;
+use base::{Blob, NoMemory};
+use field_binding::laws::linked_bindings_are_routable;
 use grpc_frames::frame;
 use linked_api::Api;
+use path_router::Router;
 use std::alloc::Global;
+use transcoding::{Transcoded, transcode};
 
 /// Appends bytes in lower-case hexadecimal.
 fn put_hex(alloc: Global, out: &mut Vec<u8>, bytes: &[u8]) -> Result<(), NoMemory>
@@ -28,50 +27,59 @@ fn put_hex(alloc: Global, out: &mut Vec<u8>, bytes: &[u8]) -> Result<(), NoMemor
     Ok(())
 }
 
-/// The lines `path P` and `frame HEX`.
-fn lines(alloc: Global, path: &[u8], message: &[u8]) -> Result<Vec<u8>, NoMemory>
-    requires { length message.now < 2 ^ 32 }
-    ensures { IfOk result (λ out. out.items ≡ output path.now message.now) }
+/// Appends the line `frame HEX` of a message.
+fn put_message(alloc: Global, out: &mut Vec<u8>, message: &[u8]) -> Result<(), NoMemory>
+    requires { length message.now ≤ 1048576 }
+    ensures { OnOk result (out.new.items ≡ out.old.items ++ message_line message.now) }
 {
     let mut framed = Vec::new(alloc);
     frame(message, &mut framed)?;
+    out.extend_from_slice(b"frame ")?;
+    put_hex(alloc, out, framed.as_slice())?;
+    out.push(b'\n')?;
+    Ok(())
+}
+
+/// Appends a line for each message.
+fn put_messages(alloc: Global, out: &mut Vec<u8>, messages: &[Blob]) -> Result<(), NoMemory>
+    requires { AllByRecursion (λ m. length m ≤ 1048576) messages.now }
+    ensures { OnOk result (out.new.items ≡ out.old.items ++ flat_map message_line messages.now) }
+{
+    for message in messages {
+        put_message(alloc, out, message.as_slice())?;
+    }
+    Ok(())
+}
+
+/// The lines `path P` and `frame HEX` of what a request means.
+fn lines(alloc: Global, request: &Transcoded<'_>) -> Result<Vec<u8>, NoMemory>
+    requires { AllByRecursion (λ m. length m ≤ 1048576) request.now.messages }
+    ensures { IfOk result (λ out. out.items ≡ output (transcoded_view request.now)) }
+{
     let mut out = Vec::new(alloc);
     out.extend_from_slice(b"path ")?;
-    out.extend_from_slice(path)?;
-    out.extend_from_slice(b"\nframe ")?;
-    put_hex(alloc, &mut out, framed.as_slice())?;
-    out.extend_from_slice(b"\n")?;
+    out.extend_from_slice(request.path.as_str().as_bytes())?;
+    out.push(b'\n')?;
+    put_messages(alloc, &mut out, request.messages.as_slice())?;
     Ok(out)
 }
 
-/// What the command prints, for a route.
-fn route_output(
+/// What the command prints of a linked set and a body.
+pub(crate) fn bind_output(
     alloc: Global,
-    route: &Route<'_>,
-    method: &[u8],
-    target: &[u8],
+    api: &Api,
+    words: Bind<'_>,
+    body: &[u8],
 ) -> Result<Vec<u8>, Stop>
-    requires { SetsString (route_view route.now) }
-    ensures { Gives (λ out. IsPrinted (route_view route.now) method.now target.now out.items) (λ _. ⊥) (IsRefusal (route_view route.now) method.now target.now) ⊥ result }
-{
-    let message = bind(alloc, route, method, target)?;
-    let out = lines(alloc, route.path.as_str().as_bytes(), message.as_slice())?;
-    Ok(out)
-}
-
-/// What the command prints of a linked set. Where the set has no route of the simple form, each request is refused as
-/// not built.
-pub(crate) fn bind_output(alloc: Global, api: &Api, words: Bind<'_>) -> Result<Vec<u8>, Stop>
     requires { IsLinked api.now }
-    ensures { Gives (λ out. IsBindOutput (simple_route api.now) (bind_view words.entry) out.items) (λ _. ⊥) (IsBindRefusal (simple_route api.now) (bind_view words.entry)) ⊥ result }
+    ensures { Gives (λ out. IsBindOutput api.now (bind_view words.entry) body.now out.items) (λ _. ⊥) (IsBindRefusal api.now (bind_view words.entry) body.now) ⊥ result }
 {
-    match simple_route(api) {
-        Some(route) => route_output(
-            alloc,
-            &route,
-            words.method.as_bytes(),
-            words.target.as_bytes(),
-        ),
-        None => Err(Stop::Refused(RequestRefusal::NotBuilt)),
+    linked_bindings_are_routable();
+    let router = Router::build(alloc, &api.bindings)?;
+    let method = words.method.as_bytes();
+    let target = words.target.as_bytes();
+    match transcode(alloc, api, &router, method, target, body) {
+        Ok(request) => Ok(lines(alloc, &request)?),
+        Err(refusal) => Err(Stop::from(refusal)),
     }
 }

@@ -8,12 +8,12 @@ ghost use Rattle.gateway_run.specs.Outcomes.{stop_line};
 ghost use Rattle.gateway_run.specs.RefusalLines.{refusal_line};
 
 use crate::descriptor_fault::DescriptorFault;
-use crate::refusal::RequestRefusal;
 use crate::status::Stop;
 use base::Text;
 use gate_world::{Sink, WriteFailed, write_all};
 use itoa::Buffer;
 use schema_link::LinkKind;
+use transcoding::RequestRefusal;
 use wire_records::WireFault;
 
 /// Writes texts one after another. Where a write fails, the sink has gained a prefix of them,

@@ -1,10 +1,9 @@
-//! Worked examples of commands and of what they print, as laws.
-ghost use Rattle.gateway_run.specs.PrintedExamples.{PrintedExamplesHold};
+//! Worked examples of commands, as a law.
+ghost use Rattle.gateway_run.specs.CommandExamples.{CommandExamplesHold};
 
-/// What `check` and `routes` print of a small API, which APIs have a route of the simple form, and which words
-/// are commands.
-pub fn printed_examples()
-    ensures { PrintedExamplesHold }
+/// Which words are commands.
+pub fn command_examples()
+    ensures { CommandExamplesHold }
 {
     http_rules::laws::named_methods_are_tokens();
 }

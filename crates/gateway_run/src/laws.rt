@@ -4,9 +4,8 @@ ghost use Rattle.std.specs.Prelude.{◌≡◌, ℕ, List};
 ghost use Rattle.gateway_run.specs.CommandOutput.{IsOutput, IsRefusedBy};
 ghost use Rattle.gateway_run.specs.Commands.{Command};
 ghost use Rattle.gateway_run.specs.DeclaredApi.{Declares, IsUnserved};
-ghost use Rattle.gateway_run.specs.RouteLines.{IsRoutesText};
 ghost use Rattle.gateway_run.specs.declared.descriptor_fault.DescriptorFault.{DescriptorFault};
-ghost use Rattle.gateway_run.specs.declared.refusal.RequestRefusal.{RequestRefusal};
+ghost use Rattle.transcoding.specs.declared.refusal.RequestRefusal.{RequestRefusal};
 ghost use Rattle.linked_api.specs.LinkedApi.{IsLinked};
 ghost use Rattle.linked_api.specs.declared.api.Api.{Api};
 
@@ -25,20 +24,17 @@ pub fn one_fault_of_a_set()
     ensures one { (bytes : List ℕ) (f g : DescriptorFault) → IsUnserved bytes f → IsUnserved bytes g → f ≡ g }
 {}
 
-/// An API that is linked has one text of its routes.
-pub fn one_text_of_routes()
-    ensures some { (api : Api) → IsLinked api → (text : List ℕ) × IsRoutesText api text }
-    ensures one { (api : Api) (a b : List ℕ) → IsRoutesText api a → IsRoutesText api b → a ≡ b }
-{}
-
 /// A command whose request is refused prints nothing, is refused for one cause, and one that is not prints one
 /// output: so each status is given exactly where its cause stands.
 pub fn one_answer_to_a_command()
-    ensures apart { (file out : List ℕ) (c : Command) (r : RequestRefusal) → IsRefusedBy file c r → IsOutput file c out → ⊥ }
-    ensures one_cause { (file : List ℕ) (c : Command) (q r : RequestRefusal) → IsRefusedBy file c q → IsRefusedBy file c r → q ≡ r }
-    ensures one_output { (file out other : List ℕ) (c : Command) → IsOutput file c out → IsOutput file c other → out ≡ other }
+    ensures apart { (file input out : List ℕ) (c : Command) (r : RequestRefusal) → IsRefusedBy file input c r
+        → IsOutput file input c out → ⊥ }
+    ensures one_cause { (file input : List ℕ) (c : Command) (q r : RequestRefusal) → IsRefusedBy file input c q
+        → IsRefusedBy file input c r → q ≡ r }
+    ensures one_output { (file input out other : List ℕ) (c : Command) → IsOutput file input c out
+        → IsOutput file input c other → out ≡ other }
 {
     one_api_is_declared();
-    one_text_of_routes();
-    http_rules::laws::fits_in_one_way();
+    set_listing::laws::one_text_of_routes();
+    transcoding::laws::one_transcoding();
 }

@@ -4,20 +4,11 @@ ghost use Rattle.gate_world.specs.Causes.{Rose};
 ghost use Rattle.gate_world.specs.ToldFiles.{IsMissing, told_file};
 ghost use Rattle.gateway_run.specs.Outcomes.{Gives};
 
+use crate::pieces::{PIECE_BYTES, len_of};
 use crate::status::Stop;
 use descriptor_set::MAX_SET_BYTES;
 use gate_world::{Files, Read};
 use std::alloc::Global;
-
-/// How many bytes are asked for at a time.
-const PIECE_BYTES: usize = 16_384;
-
-/// How many bytes there are.
-fn len_of(bytes: &Vec<u8>) -> usize
-    ensures { result ≡ length bytes.now.items }
-{
-    bytes.as_slice().len()
-}
 
 /// How many bytes are asked for behind so many.
 fn room_behind(len: usize) -> usize

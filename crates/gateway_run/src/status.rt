@@ -1,15 +1,15 @@
 //! How a command ends.
 ghost use Rattle.gateway_run.specs.declared.status.Stop.TheVariants.{NoMemory as no_memory, WriteFault as write_fault};
 ghost use Rattle.std.specs.Prelude.{◌≡◌};
-ghost use Rattle.gateway_run.specs.Outcomes.{number_of, stop_status, unlinked_stop, unread_stop};
+ghost use Rattle.gateway_run.specs.Outcomes.{StopsFor, number_of, stop_status, unlinked_stop, unread_stop};
 
 use crate::descriptor_fault::DescriptorFault;
-use crate::refusal::RequestRefusal;
 use base::NoMemory;
 use descriptor_set::SetFault;
 use gate_world::{Refusal, WriteFailed};
 use schema_link::LinkFault;
 use std::alloc::AllocError;
+use transcoding::RequestRefusal;
 
 /// How a command ended.
 #[derive(Debug, Clone, Copy, PartialEq, Eq)]
@@ -65,13 +65,6 @@ pub(crate) enum Stop {
 }
 
 impl Stop {
-    /// The request is refused for a cause of the table.
-    pub(crate) fn listed(refusal: Refusal) -> Stop
-        ensures { result ≡ Stop.Refused (RequestRefusal.Listed refusal) }
-    {
-        Stop::Refused(RequestRefusal::Listed(refusal))
-    }
-
     /// The status.
     pub(crate) fn status(&self) -> Status
         ensures { result ≡ stop_status self.now }
@@ -109,6 +102,17 @@ impl From<LinkFault> for Stop {
                 Stop::Descriptors(DescriptorFault::Unlinked(kind, name, second))
             }
             LinkFault::NoMemory => Stop::NoMemory,
+        }
+    }
+}
+
+impl From<RequestRefusal> for Stop {
+    ghost from_gives = { λ refusal stop. StopsFor refusal stop };
+
+    fn from(refusal: RequestRefusal) -> Stop {
+        match refusal {
+            RequestRefusal::Listed(Refusal::NoMemory) => Stop::NoMemory,
+            refusal => Stop::Refused(refusal),
         }
     }
 }

@@ -6,7 +6,8 @@ grpcjson: a gRPC-JSON transcoding gateway
 
 usage: grpcjson COMMAND WORD...
 
-  bind SET METHOD TARGET   prints the gRPC path and the framed message that an HTTP request means
+  bind SET METHOD TARGET   prints the gRPC path and the framed messages that an HTTP request means; its body is read
+                           from standard input
   check SET                prints how many bindings the set has
   routes SET               prints a line for each binding: HTTP method, template, gRPC path, body, response
   --help, -h               prints this text

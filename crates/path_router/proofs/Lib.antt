@@ -1,5 +1,9 @@
 -- The order of bindings is strict, and total among those that fit (`order_is_strict`, `order_is_total`).
 pub mod OrderLemmas
+-- A part of a text that ends before the first byte of a kind.
+pub mod EndLemmas
+-- A target has one path at most (`one_path_of_a_target`, `target_path`).
+pub mod TargetLemmas
 -- A path is cut at its slashes in one way.
 pub mod PieceLemmas
 -- Segments take the pieces of a path one by one.

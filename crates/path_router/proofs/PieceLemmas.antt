@@ -4,48 +4,20 @@ use Rattle.std.proofs.Math.Seq.{drop-append-add}
 use Rattle.std.proofs.lemmas.List.{take_more}
 use Rattle.std.specs.List.{AllByRecursion}
 use Rattle.http_rules.specs.TemplateMatch.{slashed}
+use Rattle.path_router.proofs.EndLemmas.{ended_at, one_end, tail_or_none}
 use Rattle.path_router.specs.PathSegments.{IsUncut, IsAtCut, BeginsWith}
 
 -- ---- where a piece ends
 
--- what holds of the first items and of the next holds of one more
-pub each_step : {X : Type 0} (P : X → Type 0) (n : ℕ) (xs : List X) (d : X) → n < length xs
-    → AllByRecursion P (take n xs) → P (get_or xs n d) → AllByRecursion P (take (n + 1) xs)
-each_step {X} P n xs d h a p = let on : suc n ≡ n + 1 = omega arith in
-    subst (λ k. AllByRecursion P (take k xs)) on (next n xs h a p)
-  where
-    next : (n : ℕ) (xs : List X) → n < length xs → AllByRecursion P (take n xs) → P (get_or xs n d)
-        → AllByRecursion P (take (suc n) xs)
-    next n [] h a p = absurd (omega arith)
-    next zero (x ∷ xs) h a p = (p, tt)
-    next (suc n) (x ∷ xs) h a p = (a.0, next n xs (omega arith) a.1 p)
-
 -- a piece ends at an offset where a slash stands or nothing follows
 pub cut_at : (n : ℕ) (xs : List ℕ) (d : ℕ) → n ≤ length xs → (n < length xs → get_or xs n d ≡ 47) → IsAtCut (drop n xs)
-cut_at zero [] d l h = tt
-cut_at zero (x ∷ xs) d l h = h (omega arith)
-cut_at (suc n) [] d l h = absurd (omega arith)
-cut_at (suc n) (x ∷ xs) d l h = cut_at n xs d (omega arith) (λ k. h (omega (arith, k)))
+cut_at = ended_at (λ b. b ≡ 47)
 
 -- ---- one cut
 
-abbrev tail_or_none : List ℕ → List ℕ
-tail_or_none [] = []
-tail_or_none (b ∷ s) = s
-
-abbrev head_or : ℕ → List ℕ → ℕ
-head_or d [] = d
-head_or d (b ∷ s) = b
-
 -- two pieces at the front, each cut behind, are one
 pub one_cut : (p q x y : List ℕ) → IsUncut p → IsUncut q → IsAtCut x → IsAtCut y → p ++ x ≡ q ++ y → (p ≡ q) × (x ≡ y)
-one_cut [] [] x y a b ex ey e = (refl, e)
-one_cut [] (d ∷ q) x y a b ex ey e = absurd (b.0 (subst IsAtCut e ex))
-one_cut (c ∷ p) [] x y a b ex ey e = absurd (a.0 (subst IsAtCut (sym e) ey))
-one_cut (c ∷ p) (d ∷ q) x y a b ex ey e =
-    let r = one_cut p q x y a.1 b.1 ex ey (ap tail_or_none e) in
-    let heads : c ≡ d = ap (head_or 0) e in
-    (ap (λ z. z ∷ p) heads ∙ ap (λ z. d ∷ z) r.0, r.1)
+one_cut = one_end (λ b. b ≡ 47)
 
 slashed_cut : (ps : List (List ℕ)) → IsAtCut (slashed ps)
 slashed_cut [] = tt

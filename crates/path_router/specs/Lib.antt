@@ -8,3 +8,5 @@ pub mod RouteChoice
 pub mod RoutableBindings
 pub mod PathSegments
 pub mod RouteSearch
+pub mod TargetPath
+pub mod TargetExamples

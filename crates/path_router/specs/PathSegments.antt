@@ -7,6 +7,7 @@ use Rattle.http_rules.specs.TemplateMatch.{IsPath, IsPathSegment, slashed}
 use Rattle.http_rules.specs.declared.template.Segment.{Segment}
 use Rattle.http_rules.specs.declared.template.Segment.TheVariants.{Literal, One, Rest}
 use Rattle.http_rules.specs.declared.template.Template.{Template}
+use Rattle.path_router.specs.TargetPath.{IsEndedBy}
 
 -- a piece is cut at slashes: it has none
 abbrev pub IsUncut : List ℕ → Type 0
@@ -14,8 +15,7 @@ IsUncut piece = AllByRecursion (λ b. b ≢ 47) piece
 
 -- nothing follows, or a slash does
 abbrev pub IsAtCut : List ℕ → Type 0
-IsAtCut [] = Unit {0}
-IsAtCut (b ∷ bs) = b ≡ 47
+IsAtCut text = IsEndedBy (λ b. b ≡ 47) text
 
 -- a path begins with a slash and this piece, and this follows
 pub record BeginsWith (path piece more : List ℕ) : Type 0 where

@@ -13,6 +13,7 @@ ghost use Rattle.http_rules.specs.declared.template.Binding.{Binding};
 ghost use Rattle.http_rules.specs.declared.template.Template.{Template};
 ghost use Rattle.path_router.specs.BindingMethods.{methods_of};
 ghost use Rattle.path_router.specs.RouteChoice.{IsChoice, IsFound, Precedes, Serves, ends_of};
+ghost use Rattle.path_router.specs.TargetPath.{IsTargetPath};
 ghost use Rattle.path_router.specs.declared.captures.Span.{Span};
 ghost use Rattle.path_router.specs.declared.routed.Routed.{Routed};
 
@@ -74,4 +75,9 @@ pub fn methods_are_in_order()
         ↔ ((i : ℕ) × (b : Binding) × (slice_get bindings i ≡ Some b) × (b.method ≡ m)) }
     ensures count { (bindings : List Binding)
         → length (methods_of bindings) ≡ distinct_count bytes_eq (map (λ (b : Binding). b.method) bindings) }
+{}
+
+/// A target has one path at most.
+pub fn one_path_of_a_target()
+    ensures { (target p q : List ℕ) → IsTargetPath target p → IsTargetPath target q → p ≡ q }
 {}

@@ -2,7 +2,8 @@
 //!
 //! `Router::build` takes the bindings of a set once, and `Router::route` finds the one that is served, with the span
 //! of the path that each of its variables takes, or tells which methods the path has. `fit` matches one template.
-//! What a variable takes is decoded by `http_rules::capture`. Begin with `Router`.
+//! What a variable takes is decoded by `http_rules::capture`, and `target_path` cuts
+//! the path out of a request's target. Begin with `Router`.
 #![tactic(auto)]
 
 mod captures;
@@ -15,6 +16,7 @@ mod pieces;
 mod routed;
 mod router;
 mod search;
+mod target;
 #[cfg(test)]
 mod tests;
 
@@ -23,3 +25,4 @@ pub use fitting::fit;
 pub use methods::method_count;
 pub use routed::Routed;
 pub use router::Router;
+pub use target::target_path;

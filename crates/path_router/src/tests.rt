@@ -1,6 +1,6 @@
-//! `fit` once on a path that fits and once on one that does not.
+//! `fit` once on a path that fits and once on one that does not, and `target_path` once on each form of a target.
 
-use crate::{Captures, Span, fit};
+use crate::{Captures, Span, fit, target_path};
 use http_rules::parse_template;
 use std::test::Fail;
 
@@ -28,5 +28,14 @@ fn a_template_fits_a_path_or_does_not(rt: HostRuntime) -> Result<(), Fail> {
     let plain = parse_template(rt.alloc(), "/v1/*")?;
     assert!(rt; fits_without_spans(fit(&plain, b"/v1/a").as_ref()));
     assert!(rt; fit(&plain, b"/v1/").is_none());
+    Ok(())
+}
+
+#[test]
+fn a_target_has_a_path_or_none(rt: HostRuntime) -> Result<(), Fail> {
+    assert!(rt; target_path(b"/a/b?x=1") == Some(b"/a/b".as_slice()));
+    assert!(rt; target_path(b"HTTP://h/a?b/c") == Some(b"/a".as_slice()));
+    assert!(rt; target_path(b"http://h?x") == Some(b"/".as_slice()));
+    assert!(rt; target_path(b"*").is_none());
     Ok(())
 }

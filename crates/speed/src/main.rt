@@ -1,15 +1,18 @@
 //! Reads and writes as much as its words ask for, for scripts/speed.py to time; without words, a little of
-//! each. Words: what to do, and how many MiB, or how many items.
+//! each. Words: what to do, and how many MiB, or how many items; or `route` or `bind`, how often, a method, and a path
+//! or a target, over the set that the input has.
 #![tactic(auto)]
 
 mod blocks;
 mod books;
+mod requests;
 mod texts;
 
 use blocks::block_rounds;
 use books::{book_rounds, encode_rounds, many_items};
+use requests::{bind_rounds, route_rounds};
 use std::alloc::{AllocError, Global};
-use std::io::{self, Write};
+use std::io::{self, Read, Write};
 use std::{env, str};
 use texts::token_count;
 
@@ -32,6 +35,26 @@ fn counted(alloc: Global, what: &str, size: usize) -> Result<u64, AllocError> {
         "huffman" => Ok(block_rounds(alloc, true, size)),
         "indexed" => Ok(block_rounds(alloc, false, size)),
         _ => Ok(0),
+    }
+}
+
+/// The bytes of the input.
+fn input_of<R: Read>(alloc: Global, input: &mut R) -> io::Result<Vec<u8>> {
+    let mut bytes = Vec::new(alloc);
+    input.read_to_end(&mut bytes)?;
+    Ok(bytes)
+}
+
+/// What is counted over a set for the words behind the first.
+fn counted_of(alloc: Global, set: &[u8], what: &str, words: &[String]) -> u64 {
+    let [rounds, method, path] = words else {
+        return 0;
+    };
+    let rounds = number_of(Some(rounds));
+    match what {
+        "route" => route_rounds(alloc, set, method.as_str(), path.as_str(), rounds),
+        "bind" => bind_rounds(alloc, set, method.as_str(), path.as_str(), rounds),
+        _ => 0,
     }
 }
 
@@ -66,6 +89,11 @@ fn main(rt: HostRuntime) -> io::Result<()> {
     let Some(what) = words.first() else {
         return write_counts(alloc, &mut out);
     };
+    if words.len() == 4 {
+        let set = input_of(alloc, &mut rt.stdin())?;
+        let count = counted_of(alloc, set.as_slice(), what.as_str(), &words.as_slice()[1..]);
+        return out.write_all(format!(in alloc; "{count}\n")?.as_bytes());
+    }
     let count = counted(alloc, what.as_str(), size)?;
     out.write_all(format!(in alloc; "{count}\n")?.as_bytes())
 }

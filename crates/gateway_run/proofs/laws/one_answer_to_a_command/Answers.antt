@@ -5,9 +5,9 @@ pub returns : goal.returns
 returns c =
     let one = c.one_api_is_declared.ensures.one in
     let linked = c.one_api_is_declared.ensures.linked in
-    let fit = c.fits_in_one_way.ensures in
+    let means = c.one_transcoding.ensures in
     record {
-      apart = apart one linked fit;
-      one_cause = one_refusal one linked fit;
-      one_output = one_output one linked fit c.one_text_of_routes.ensures.one;
+      apart = apart one linked means;
+      one_cause = one_refusal one linked means;
+      one_output = one_output one linked means c.one_text_of_routes.ensures.one;
     }

@@ -1,0 +1,8 @@
+pub use Rattle.field_settings.specs.AppliedSettings
+pub use Rattle.protojson_read.specs.ScalarTexts
+pub mod Assignments
+pub mod PathSettings
+pub mod ValueFaults
+pub mod PathReadings
+pub mod RequestMessages
+pub mod BindingExamples

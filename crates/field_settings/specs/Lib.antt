@@ -1,0 +1,13 @@
+pub use Rattle.linked_api.specs.FieldPaths
+pub use Rattle.linked_api.specs.NumberPaths
+pub use Rattle.message_types.specs.Types
+pub use Rattle.schema.specs.Layers
+pub use Rattle.schema.specs.Pairs
+pub use Rattle.schema.specs.Soundness
+pub use Rattle.schema.specs.Validity
+pub use Rattle.schema.specs.Value
+pub mod AppliedSettings
+pub mod SettingSteps
+pub mod SettingLaws
+pub mod SettingExamples
+pub mod LevelExamples

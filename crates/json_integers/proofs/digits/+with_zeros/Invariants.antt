@@ -1,0 +1,4 @@
+use Rattle.json_integers.proofs.digits.+with_zeros.Given as goal
+
+abbrev pub decreases-with_zeros : goal.decreases-with_zeros
+decreases-with_zeros l = l.zeros

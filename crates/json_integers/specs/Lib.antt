@@ -1,0 +1,5 @@
+pub mod IntegerTexts
+pub mod IntegerExamples
+pub mod NumberCut
+pub mod PartsSeen
+pub mod WholeNumbers

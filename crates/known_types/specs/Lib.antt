@@ -1,0 +1,2 @@
+pub mod BytesTexts
+pub mod BytesExamples

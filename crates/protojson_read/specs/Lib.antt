@@ -1,0 +1,3 @@
+pub mod ScalarTexts
+pub mod ScalarExamples
+pub mod ScalarMeanings

@@ -1,0 +1,2 @@
+-- The lines of the bindings of a linked API: there is one text of them.
+pub mod ListingLemmas

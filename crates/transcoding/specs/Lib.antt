@@ -1,0 +1,11 @@
+pub use Rattle.gate_world.specs.Refusals
+pub use Rattle.field_binding.specs.Assignments
+pub use Rattle.field_binding.specs.PathSettings
+pub use Rattle.field_binding.specs.RequestMessages
+pub mod RequestRefusals
+pub mod RoutedRequest
+pub mod BuiltForms
+pub mod TranscodedRequest
+pub mod TranscodedView
+pub mod TranscodingSteps
+pub mod TranscodingExamples
