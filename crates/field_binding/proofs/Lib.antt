@@ -7,3 +7,5 @@ pub mod UniqueLemmas
 pub mod OverlayLemmas
 -- Worked examples.
 pub mod ExampleFacts
+-- Each path is bound or refused (`each_path_is_bound`).
+pub mod EachBinding

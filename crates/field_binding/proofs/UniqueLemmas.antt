@@ -59,7 +59,7 @@ wrong_reading types s t faults.BadNumber h = h
 wrong_reading types s t faults.OutOfRange h = h
 wrong_reading types s t faults.BadEnum h = h
 wrong_reading types s t faults.NotUtf8 h = h
-wrong_reading types s t faults.NoMemory h = tt
+wrong_reading types s t faults.NoMemory h = absurd h
 
 -- a fault that is told is not that of memory
 told : (f : ScalarFault) (k : ValueKind) → value_fault f ≡ Wrong k

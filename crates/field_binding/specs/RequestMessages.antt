@@ -26,8 +26,8 @@ pub record IsOverlayOf (api : Api) (index : ℕ) (a : Assignments) : Type 0 wher
   pub query : AllByRecursion (FitsSetting api.types method.input) a.query
   pub path : AllByRecursion (FitsSetting api.types method.input) a.path
 
--- the message of a request for the binding of an index, which has no body: what the query sets of the empty message,
--- and then what the path sets of that
+-- the message of a request for the binding of an index, as far as no body counts: what the query sets of the empty
+-- message, and then what the path sets of that
 pub record IsRequestMessage (api : Api) (index : ℕ) (a : Assignments) (message : Value) : Type 0 where
   pub binding : Binding
   pub method : MethodInfo

@@ -44,8 +44,11 @@ set_by fields f held v w apart some r e =
 -- the numbers of both types are apart
 orders_apart : AreNumbersApart (fields_of orders (type_at 0))
 orders_apart = (
-  (refl, (refl, (refl, (refl, (refl, tt))))),
-  ((refl, (refl, (refl, (refl, tt)))), ((refl, (refl, (refl, tt))), ((refl, (refl, tt)), ((refl, tt), (tt, tt))))),
+  (refl, (refl, (refl, (refl, (refl, (refl, tt)))))),
+  (
+    (refl, (refl, (refl, (refl, (refl, tt))))),
+    ((refl, (refl, (refl, (refl, tt)))), ((refl, (refl, (refl, tt))), ((refl, (refl, tt)), ((refl, tt), (tt, tt))))),
+  ),
 )
 
 addresses_apart : AreNumbersApart (fields_of orders (type_at 1))
@@ -182,21 +185,23 @@ listed_given =
 
 -- a card clears the address of the oneof
 pub member_given : Gives (4 ∷ []) (text (codes "a"))
-    ((1, text (codes "x")) ∷ (5, message_slot (message ((1, text (codes "b")) ∷ []))) ∷ [])
-    ((1, text (codes "x")) ∷ (4, text (codes "a")) ∷ [])
+    ((1, text (codes "x")) ∷ (5, message_slot (message ((1, text (codes "b")) ∷ []))) ∷ (7, text (codes "y")) ∷ [])
+    ((1, text (codes "x")) ∷ (4, text (codes "a")) ∷ (7, text (codes "y")) ∷ [])
 member_given =
     last_set (type_at 0) 4 (text (codes "a")) card (Some (text (codes "a")))
-    (message ((1, text (codes "x")) ∷ (5, message_slot (message ((1, text (codes "b")) ∷ []))) ∷ []))
-    (message ((1, text (codes "x")) ∷ (4, text (codes "a")) ∷ [])) orders_apart refl (omega arith)
-    (omega arith, (omega arith, tt)) (holds_text card (codes "a") refl) refl
+    (message ((1, text (codes "x")) ∷ (5, message_slot (message ((1, text (codes "b")) ∷ [])))
+    ∷ (7, text (codes "y")) ∷ []))
+    (message ((1, text (codes "x")) ∷ (4, text (codes "a")) ∷ (7, text (codes "y")) ∷ [])) orders_apart refl
+    (omega arith) (omega arith, (omega arith, (omega arith, tt))) (holds_text card (codes "a") refl) refl
 
 -- the address of the oneof clears a card
-pub passed_given : Gives (5 ∷ 1 ∷ []) (text (codes "a"))
-    ((4, text (codes "b")) ∷ []) ((5, message_slot (message ((1, text (codes "a")) ∷ []))) ∷ [])
+pub passed_given : Gives (5 ∷ 1 ∷ []) (text (codes "a")) ((4, text (codes "b")) ∷ (7, text (codes "y")) ∷ [])
+    ((5, message_slot (message ((1, text (codes "a")) ∷ []))) ∷ (7, text (codes "y")) ∷ [])
 passed_given =
     way_set 5 1 (text (codes "a")) bill_to (message []) (message ((1, text (codes "a")) ∷ []))
-    (message ((4, text (codes "b")) ∷ [])) (message ((5, message_slot (message ((1, text (codes "a")) ∷ []))) ∷ []))
-    refl refl (omega arith) (omega arith, tt) refl
+    (message ((4, text (codes "b")) ∷ (7, text (codes "y")) ∷ []))
+    (message ((5, message_slot (message ((1, text (codes "a")) ∷ []))) ∷ (7, text (codes "y")) ∷ []))
+    refl refl (omega arith) (omega arith, (omega arith, tt)) refl
     (town_set (codes "a") (Some (text (codes "a"))) [] ((1, text (codes "a")) ∷ []) tt refl refl) refl
 
 -- the second of two notes counts
@@ -214,8 +219,8 @@ last_given = (
   ),
 )
 
--- there is no seventh field
-pub no_field_given : (w : Value) → Sets orders (type_at 0) (7 ∷ []) (text []) (message []) w → ⊥
+-- there is no eighth field
+pub no_field_given : (w : Value) → Sets orders (type_at 0) (8 ∷ []) (text []) (message []) w → ⊥
 no_field_given w h = let none : None ≡ Some h.0 = h.1 in absurd (cc none)
 
 -- nothing is behind a note

@@ -15,7 +15,7 @@ use Rattle.schema.specs.declared.value.Slot.{Slot, roll-Slot}
 use Rattle.schema.specs.declared.value.Value.{Value}
 
 -- an order: a note, a label that tells the empty one from absence, an address, a oneof of a card's name and an address,
--- and tags
+-- tags, and another oneof
 abbrev pub order : MessageType
 order = record {
   name = codes "shop.Order";
@@ -26,7 +26,8 @@ order = record {
       ∷ field_of_kind (codes "address") 3 (MessageOf (type_at 1)) Single Explicit
       ∷ field_of_kind (codes "card") 4 (OneOf TextOf) (Member 0) Explicit
       ∷ field_of_kind (codes "bill_to") 5 (MessageOf (type_at 1)) (Member 0) Explicit
-      ∷ field_of_kind (codes "tags") 6 (OneOf TextOf) ManyOf Implicit ∷ [];
+      ∷ field_of_kind (codes "tags") 6 (OneOf TextOf) ManyOf Implicit
+      ∷ field_of_kind (codes "gift_for") 7 (OneOf TextOf) (Member 1) Explicit ∷ [];
 }
 
 -- an address: a town, and a street that tells the empty one from absence
@@ -77,17 +78,17 @@ pub record SettingExamplesHold : Type 0 where
   pub absent : Gives (3 ∷ 1 ∷ []) (text []) [] ((3, message_slot (message [])) ∷ [])
   pub present : Gives (3 ∷ 2 ∷ []) (text []) [] ((3, message_slot (message ((2, text []) ∷ []))) ∷ [])
   pub listed : Gives (6 ∷ []) no_items [] []
-  -- a member of a oneof clears the other, at the end of a path and on the way
+  -- a member of a oneof clears the other, at the end of a path and on the way, and no member of another oneof
   pub member : Gives (4 ∷ []) (text (codes "a"))
-      ((1, text (codes "x")) ∷ (5, message_slot (message ((1, text (codes "b")) ∷ []))) ∷ [])
-      ((1, text (codes "x")) ∷ (4, text (codes "a")) ∷ [])
-  pub passed : Gives (5 ∷ 1 ∷ []) (text (codes "a"))
-      ((4, text (codes "b")) ∷ []) ((5, message_slot (message ((1, text (codes "a")) ∷ []))) ∷ [])
+      ((1, text (codes "x")) ∷ (5, message_slot (message ((1, text (codes "b")) ∷ []))) ∷ (7, text (codes "y")) ∷ [])
+      ((1, text (codes "x")) ∷ (4, text (codes "a")) ∷ (7, text (codes "y")) ∷ [])
+  pub passed : Gives (5 ∷ 1 ∷ []) (text (codes "a")) ((4, text (codes "b")) ∷ (7, text (codes "y")) ∷ [])
+      ((5, message_slot (message ((1, text (codes "a")) ∷ []))) ∷ (7, text (codes "y")) ∷ [])
   -- of two settings of one path the last counts
   pub last : AreSet orders (type_at 0)
       (record { path = 1 ∷ []; slot = text (codes "a") } ∷ record { path = 1 ∷ []; slot = text (codes "b") } ∷ [])
       (message []) (message ((1, text (codes "b")) ∷ []))
   -- nothing is set at no path, under a number of no field, and behind a string
   pub no_path : (w : Value) → Sets orders (type_at 0) [] (text []) (message []) w → ⊥
-  pub no_field : (w : Value) → Sets orders (type_at 0) (7 ∷ []) (text []) (message []) w → ⊥
+  pub no_field : (w : Value) → Sets orders (type_at 0) (8 ∷ []) (text []) (message []) w → ⊥
   pub behind : (w : Value) → Sets orders (type_at 0) (1 ∷ 1 ∷ []) (text []) (message []) w → ⊥

@@ -6,3 +6,5 @@ pub mod FrontLemmas
 pub mod InputLemmas
 -- The lines on standard error.
 pub mod LineLemmas
+-- Each command has an output or a refusal (`each_command_is_answered`).
+pub mod EachCommand

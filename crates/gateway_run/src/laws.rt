@@ -1,6 +1,8 @@
 //! Laws of the definitions that the contract of `run_offline` cites. Each is the contract of a function
 //! that does nothing.
-ghost use Rattle.std.specs.Prelude.{◌≡◌, ℕ, List};
+ghost use Rattle.std.specs.Prelude.{◌≡◌, ◌⊎◌, ℕ, List, [], Ok};
+ghost use Rattle.descriptor_set.specs.SetReading.{set_reading};
+ghost use Rattle.descriptors.specs.declared.file_set.FileSet.{FileSet};
 ghost use Rattle.gateway_run.specs.CommandOutput.{IsOutput, IsRefusedBy};
 ghost use Rattle.gateway_run.specs.Commands.{Command};
 ghost use Rattle.gateway_run.specs.DeclaredApi.{Declares, IsUnserved};
@@ -8,6 +10,7 @@ ghost use Rattle.gateway_run.specs.declared.descriptor_fault.DescriptorFault.{De
 ghost use Rattle.transcoding.specs.declared.refusal.RequestRefusal.{RequestRefusal};
 ghost use Rattle.linked_api.specs.LinkedApi.{IsLinked};
 ghost use Rattle.linked_api.specs.declared.api.Api.{Api};
+ghost use Rattle.schema_link.specs.LinkAnswers.{faults};
 
 /// The bytes of a set declare one API at most, and it is linked.
 pub fn one_api_is_declared()
@@ -37,4 +40,18 @@ pub fn one_answer_to_a_command()
     one_api_is_declared();
     set_listing::laws::one_text_of_routes();
     transcoding::laws::one_transcoding();
+}
+
+/// A set without faults declares an API, and over one that does each command has an output or is refused for a cause
+/// other than out of memory, whatever the input holds.
+pub fn each_command_is_answered()
+    ensures declared { (file : List ℕ) (set : FileSet) → set_reading file ≡ Ok set → faults set ≡ []
+        → (api : Api) × Declares file api }
+    ensures answered { (file input : List ℕ) (c : Command) (api : Api) → Declares file api
+        → ((out : List ℕ) × IsOutput file input c out) ⊎ ((r : RequestRefusal) × IsRefusedBy file input c r) }
+{
+    one_api_is_declared();
+    schema_link::laws::faultless_sets_have_one_api();
+    set_listing::laws::one_text_of_routes();
+    transcoding::laws::each_request_is_answered();
 }

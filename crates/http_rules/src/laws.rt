@@ -96,6 +96,11 @@ pub fn decodings_differ_at_slashes()
     ensures whole { (text : List ℕ) → percent_decode text ≡ flat_map part_whole (decoded_parts text) }
 {}
 
+/// What a variable takes is decoded to at most as many bytes.
+pub fn decoding_does_not_lengthen()
+    ensures { (t : Template) (index : ℕ) (text : List ℕ) → length (captured t index text) ≤ length text }
+{}
+
 /// GET, PUT, POST, DELETE and PATCH are tokens of at most 32 bytes.
 pub fn named_methods_are_tokens()
     ensures { NamedMethodsAreTokens }

@@ -1,11 +1,11 @@
 -- The answer for a text is the one that the definitions give it, and there is one.
-use Rattle.std.proofs.Common.{◌≡◌, ℕ, zero, suc, ◌+◌, ◌^◌, ◌<◌, ◌≤◌, Bool, true, false, cond, ltb, List, [], ◌∷◌, ◌++◌, length, drop, Option, Some, None, refl, sym, ap, subst, ◌∙◌, arith, length-append, length-drop}
-use Rattle.std.specs.Prelude.{ℤ, pos, nat_abs, nat_lt}
+use Rattle.std.proofs.Common.{◌≡◌, ℕ, zero, suc, ◌^◌, ◌<◌, ◌≤◌, Bool, true, false, cond, ltb, List, [], ◌∷◌, ◌++◌, length, Option, Some, None, refl, sym, ap, subst, ◌∙◌, arith, length-append, length-drop}
+use Rattle.std.specs.Prelude.{ℤ, nat_abs}
 use Rattle.std.proofs.lemmas.Bool.Decides.{nat_tests}
-use Rattle.json_events.specs.JsonNumbers.{IsNumber, NumberParts, number_text, AreNumberParts, fraction_digits, with_minus, DenotesInteger}
+use Rattle.json_events.specs.JsonNumbers.{IsNumber, NumberParts, fraction_digits, with_minus, DenotesInteger}
 use Rattle.json_integers.specs.IntegerTexts.{IsTold, IsIntegerText}
 use Rattle.json_integers.specs.NumberCut.{are_parts, cut_number}
-use Rattle.json_integers.specs.WholeNumbers.{capped, told, parts_text}
+use Rattle.json_integers.specs.WholeNumbers.{told, parts_text}
 use Rattle.json_integers.specs.declared.integer_text.IntegerText.{IntegerText}
 use Rattle.json_integers.specs.declared.integer_text.IntegerText.TheVariants.{NotANumber, NotAnInteger, PastRange, Integer}
 use Rattle.json_integers.proofs.CutLemmas.{cut_text, cut_is, parts_are, are_parts_of}
@@ -18,7 +18,7 @@ size_with_minus (x ∷ xs) zero = refl
 size_with_minus (x ∷ xs) (suc n) = refl
 
 -- a number has the parts that are found
-same_parts : (s : List ℕ) (n : IsNumber s) → cut_number s ≡ n.parts
+pub same_parts : (s : List ℕ) (n : IsNumber s) → cut_number s ≡ n.parts
 same_parts s n = ap cut_number n.text_is ∙ cut_is n.parts n.allowed
 
 -- the tests refuse what is no number

@@ -6,3 +6,5 @@ pub mod CutLemmas
 pub mod MagnitudeLemmas
 -- The answer for each text is the one that the definitions give it, and one only (`one_answer_of_a_text`).
 pub mod AnswerLemmas
+-- The integer that is computed of a text is the one that it denotes (`integers_are_computed`).
+pub mod ExactLemmas

@@ -1,16 +1,14 @@
 -- The calculation without powers of ten gives the magnitude that the definition wants.
-use Rattle.std.proofs.Common.{◌≡◌, ℕ, zero, suc, ◌+◌, ◌-◌, ◌*◌, ◌^◌, ◌<◌, ◌≤◌, min, Bool, true, false, cond, ◌&&◌, ◌||◌, eqb, leb, List, [], ◌∷◌, ◌++◌, length, take, drop, Option, Some, None, ⊎_elim, refl, sym, ap, ap₂, subst, ◌∙◌, arith, lit<, append-nil, append_assoc, length-append, length-drop, length-take, take-append-drop, leb→le, leb-false, leb-true}
-use Rattle.std.specs.Prelude.{ℤ, pos, negsuc, neg_ℤ}
+use Rattle.std.proofs.Common.{◌≡◌, ℕ, zero, suc, ◌+◌, ◌-◌, ◌*◌, ◌^◌, ◌<◌, ◌≤◌, min, Bool, true, false, cond, ◌||◌, eqb, leb, List, [], ◌∷◌, ◌++◌, length, take, drop, Option, Some, None, ⊎_elim, refl, sym, ap, ap₂, subst, ◌∙◌, arith, lit<, append-nil, append_assoc, length-append, length-drop, take-append-drop}
+use Rattle.std.specs.Prelude.{ℤ, pos, neg_ℤ}
 use Rattle.std.specs.Str.Parse.{AllDigits, digits_value, starts_with_minus, without_leading_sign}
-use Rattle.std.proofs.Math.Nat.{pow-suc, one-le-pow, pow-le-pow_right, mul-le-mul_right, eq_of_mul-eq-mul_right}
+use Rattle.std.proofs.Math.Nat.{pow-le-pow_right, eq_of_mul-eq-mul_right}
 use Rattle.std.proofs.lemmas.Bool.{cases_lt}
 use Rattle.std.proofs.lemmas.Nat.{pow-add, same_from_place}
 use Rattle.std.proofs.lemmas.Int.Digits.{digits_value-lt}
-use Rattle.json_events.specs.JsonNumbers.{NumberParts, AreNumberParts, IsExponent, significand, fraction_digits, multiplier, divisor, exponent_value}
-use Rattle.json_events.specs.WordSteps.{is_sign}
+use Rattle.json_events.specs.JsonNumbers.{NumberParts, AreNumberParts, significand, fraction_digits, multiplier, divisor, exponent_value}
 use Rattle.json_integers.specs.NumberCut.{sign_len}
 use Rattle.json_integers.specs.WholeNumbers.{capped, exponent_size, is_negative, places_of, kept, dropped, are_zeros, magnitude_of}
-use Rattle.json_integers.specs.declared.places.Places.{Places}
 use Rattle.json_integers.specs.declared.places.Places.TheVariants.{Added, Dropped}
 use Rattle.json_integers.proofs.CutLemmas.{int_digits, fraction_digits_are}
 use Rattle.json_integers.proofs.DigitLemmas.{one_power, append_digits, dropped_digits, value_append, zeros_value, value_zeros}

@@ -3,3 +3,4 @@ pub mod IntegerExamples
 pub mod NumberCut
 pub mod PartsSeen
 pub mod WholeNumbers
+pub mod ExactIntegers

@@ -1,5 +1,5 @@
 -- The magnitude of a number in so many bits, without a power of ten: digits are dropped, or zeros added.
-use Rattle.std.specs.Prelude.{◌==◌, ◌<◌, ◌^◌, ◌+◌, ◌-◌, ◌*◌, ℕ, ℤ, pos, neg_ℤ, Bool, true, false, List, [], ◌∷◌, ◌++◌, length, take, drop, min, Option, Some, None, if◌then◌else◌, nat_le, nat_lt}
+use Rattle.std.specs.Prelude.{◌==◌, ◌^◌, ◌+◌, ◌-◌, ◌*◌, ℕ, Bool, false, List, [], ◌∷◌, ◌++◌, length, take, drop, min, Option, Some, None, if◌then◌else◌, nat_le, nat_lt}
 use Rattle.std.specs.List.{list_all}
 use Rattle.std.specs.Str.Parse.{digits_value, starts_with_minus}
 use Rattle.json_events.specs.JsonNumbers.{NumberParts, fraction_digits, with_minus}

@@ -1,6 +1,9 @@
 //! Laws of the definitions.
-ghost use Rattle.std.specs.Prelude.{◌≡◌, ◌<◌, ◌^◌, ℕ, List, length};
+ghost use Rattle.std.specs.Prelude.{◌≡◌, ◌<◌, ◌^◌, ◌↔◌, ℕ, ℤ, List, Some, true, length};
+ghost use Rattle.json_events.specs.JsonNumbers.{IsNumber, DenotesInteger};
+ghost use Rattle.json_integers.specs.ExactIntegers.{exact_integer};
 ghost use Rattle.json_integers.specs.IntegerTexts.{IsIntegerText};
+ghost use Rattle.json_integers.specs.NumberCut.{are_parts, cut_number};
 ghost use Rattle.json_integers.specs.declared.integer_text.IntegerText.{IntegerText};
 
 use json_events::laws::texts_mean_one_value;
@@ -12,3 +15,9 @@ pub fn one_answer_of_a_text()
 {
     texts_mean_one_value();
 }
+
+/// A text is a number exactly where its cut has the parts of one, and an integer exactly where that is computed of them.
+pub fn integers_are_computed()
+    ensures numbers { (text : List ℕ) → IsNumber text ↔ (are_parts (cut_number text) ≡ true) }
+    ensures integers { (text : List ℕ) (z : ℤ) → DenotesInteger z text ↔ (exact_integer text ≡ Some z) }
+{}

@@ -28,3 +28,9 @@ pub mod MethodLemmas
 pub mod PlaceLemmas
 -- The methods in order are as many as the bindings have, each once (`method_count`, `methods_are_in_order`).
 pub mod CountLemmas
+-- Whether a template fits a path can be told (`each_request_has_a_choice`).
+pub mod DecidedFits
+-- Each request has a choice (`each_request_has_a_choice`).
+pub mod EachChoice
+-- Whether a target has a path can be told (`each_target_is_told`).
+pub mod EachTarget

@@ -12,6 +12,7 @@ ghost use Rattle.http_rules.specs.TemplateMatch.{Fits, Matches};
 ghost use Rattle.http_rules.specs.declared.template.Binding.{Binding};
 ghost use Rattle.http_rules.specs.declared.template.Template.{Template};
 ghost use Rattle.path_router.specs.BindingMethods.{methods_of};
+ghost use Rattle.path_router.specs.RoutableBindings.{AreRoutable};
 ghost use Rattle.path_router.specs.RouteChoice.{IsChoice, IsFound, Precedes, Serves, ends_of};
 ghost use Rattle.path_router.specs.TargetPath.{IsTargetPath};
 ghost use Rattle.path_router.specs.declared.captures.Span.{Span};
@@ -38,6 +39,12 @@ pub fn one_choice()
     ensures { (bindings : List Binding) (method path : List ℕ) (r s : Routed)
         → AllByRecursion (λ (b : Binding). IsTemplate b.template) bindings
         → IsChoice bindings method path r → IsChoice bindings method path s → r ≡ s }
+{}
+
+/// Each request has an answer, whatever its method and its path.
+pub fn each_request_has_a_choice()
+    ensures { (bindings : List Binding) (method path : List ℕ) → AreRoutable bindings
+        → (r : Routed) × IsChoice bindings method path r }
 {}
 
 /// The spans of a template that matches a path are one for each variable, and lie inside the path.
@@ -80,4 +87,10 @@ pub fn methods_are_in_order()
 /// A target has one path at most.
 pub fn one_path_of_a_target()
     ensures { (target p q : List ℕ) → IsTargetPath target p → IsTargetPath target q → p ≡ q }
+{}
+
+/// A target has a path, or none.
+pub fn each_target_is_told()
+    ensures { (target : List ℕ)
+        → ((path : List ℕ) × IsTargetPath target path) ⊎ ((path : List ℕ) → IsTargetPath target path → ⊥) }
 {}

@@ -1,11 +1,11 @@
 -- What is found of a text is what the definitions say, and a text has one reading.
-use Rattle.std.proofs.Common.{◌≡◌, ◌≢◌, ℕ, zero, suc, ◌<◌, ◌≤◌, ◌^◌, Bool, true, false, List, Option, Some, None, inl, inr, refl, sym, ap, subst, ◌∙◌, arith}
-use Rattle.std.specs.Prelude.{ℤ, pos, negsuc, nat_abs, Result, Ok, Err}
+use Rattle.std.proofs.Common.{◌≡◌, ◌≢◌, ℕ, suc, ◌<◌, ◌^◌, Bool, true, false, List, Option, Some, None, refl, sym, ap, subst, ◌∙◌, arith}
+use Rattle.std.specs.Prelude.{ℤ, pos, negsuc, Result, Ok, Err}
 use Rattle.std.specs.Str.{IsUtf8}
 use Rattle.std.proofs.lemmas.Int.{ints, to_z-of_z}
 use mir.Syntax.{w128}
 use mir.Val.{to_z, of_z}
-use Rattle.json_events.specs.JsonNumbers.{IsNumber, DenotesInteger}
+use Rattle.json_events.specs.JsonNumbers.{DenotesInteger}
 use Rattle.json_integers.specs.IntegerTexts.{IsTold, IsIntegerText}
 use Rattle.json_integers.specs.declared.integer_text.IntegerText.TheVariants.{NotANumber, PastRange}
 use Rattle.message_types.specs.declared.fields.Scalar.{Scalar}
@@ -15,11 +15,11 @@ use Rattle.schema.specs.Layers.{ItemLayer}
 use Rattle.schema.specs.Validity.{IsWithin, IsInt32, IsInt64, IsScalarItem}
 use Rattle.schema.specs.declared.value.Item.TheOpen.{Number, Truth, Text, Bytes, Message}
 use Rattle.schema.specs.declared.value.Item.{Item, out-Item, roll-Item, roll-out-Item}
-use Rattle.protojson_read.specs.ScalarMeanings.{IsNumberReading, IsNumberMeaning, IsMeaning, meaning_layer}
-use Rattle.protojson_read.specs.ScalarTexts.{truth_text, named_number, DenotesNumber, DenotesItem, IsScalarText, IsNumberKind, IsEnumKind, IsScalarTextFault, IsScalarReading, IsRead}
+use Rattle.json_meanings.specs.JsonScalars.{IsNumberKind}
+use Rattle.protojson_read.specs.ScalarMeanings.{IsNumberReading, IsNumberMeaning}
+use Rattle.protojson_read.specs.ScalarTexts.{truth_text, named_number, DenotesNumber, IsScalarText, IsEnumKind, IsScalarTextFault, IsScalarReading}
 use Rattle.protojson_read.specs.declared.fault.ScalarFault.{ScalarFault}
 use Rattle.protojson_read.specs.declared.fault.ScalarFault.TheVariants.{BadText, BadNumber, OutOfRange, BadEnum, NotUtf8, NoMemory}
-use Rattle.protojson_read.specs.declared.meanings.Meaning.{Meaning}
 
 -- a kind of which a number is a value
 number_kind : (s : Scalar) (z : ℤ) → IsScalarItem s (Number z) → IsNumberKind s
@@ -183,6 +183,10 @@ module _ (types : Types) (s : Scalar) (text : List ℕ) where
   fault_reading NotUtf8 h = h
   fault_reading NoMemory h = absurd h
 
+  -- a string that means something may be out of memory
+  pub no_room : (t : List ℕ) → IsScalarText types s text (Text t) → IsScalarReading types s text (Err NoMemory)
+  no_room t h = (text_kind s t h.1, subst IsUtf8 h.0 (text_utf8 s t h.1))
+
   reading_fault : (f : ScalarFault) → (f ≡ NoMemory → ⊥) → IsScalarReading types s text (Err f)
       → IsScalarTextFault types s text f
   reading_fault BadText n h = h
@@ -191,11 +195,6 @@ module _ (types : Types) (s : Scalar) (text : List ℕ) where
   reading_fault BadEnum n h = h
   reading_fault NotUtf8 n h = h
   reading_fault NoMemory n h = n refl
-
-  -- what is found is a meaning or a fault
-  pub read_of : (r : Result Meaning ScalarFault) → IsMeaning types s text r → IsRead types s text
-  read_of (Ok m) h = inl (meaning_layer m, h)
-  read_of (Err f) h = inr (f, h)
 
   no_truth : {Q : Type 0} → IsNumberKind s → s ≡ BoolOf → Q
   no_truth n e = absurd (subst IsNumberKind e n)
@@ -234,7 +233,8 @@ module _ (one : (y z : ℤ) (text : List ℕ) → DenotesInteger y text → Deno
   one_truth false true e = absurd (cc)
   one_truth false false e = refl
 
-  one_layer : (x y : ItemLayer) → IsScalarText types s text x → IsScalarText types s text y → x ≡ y
+  -- a text means one item
+  pub one_layer : (x y : ItemLayer) → IsScalarText types s text x → IsScalarText types s text y → x ≡ y
   one_layer (Number y) (Number z) h k = ap Number (one_number (named_number types s text) y z h.0 k.0)
   one_layer (Number y) (Truth c) h k = no_truth types s text (number_kind s y h.1) (truth_kind s c k.1)
   one_layer (Number y) (Text u) h k = no_text types s text (number_kind s y h.1) (text_kind s u k.1)
@@ -253,7 +253,9 @@ module _ (one : (y z : ℤ) (text : List ℕ) → DenotesInteger y text → Deno
   one_layer (Bytes v) y h k = absurd h.0
   one_layer (Message v) y h k = absurd h.0
 
-  layer_fault : (x : ItemLayer) (f : ScalarFault) → IsScalarText types s text x → IsScalarTextFault types s text f → ⊥
+  -- what means an item has no fault
+  pub layer_fault : (x : ItemLayer) (f : ScalarFault) → IsScalarText types s text x
+      → IsScalarTextFault types s text f → ⊥
   layer_fault (Number y) BadText h k = no_truth types s text (number_kind s y h.1) (k.0)
   layer_fault (Number y) NotUtf8 h k = no_text types s text (number_kind s y h.1) (k.0)
   layer_fault (Number y) BadNumber h k = k.1 y h.0
@@ -276,7 +278,8 @@ module _ (one : (y z : ℤ) (text : List ℕ) → DenotesInteger y text → Deno
   layer_fault (Bytes v) f h k = absurd h.0
   layer_fault (Message v) f h k = absurd h.0
 
-  one_fault : (f g : ScalarFault) → IsScalarTextFault types s text f → IsScalarTextFault types s text g → f ≡ g
+  -- a text has one fault
+  pub one_fault : (f g : ScalarFault) → IsScalarTextFault types s text f → IsScalarTextFault types s text g → f ≡ g
   one_fault BadText BadText h k = refl
   one_fault BadText NotUtf8 h k = apart types s text (h.0) (k.0)
   one_fault BadText BadNumber h k = no_truth types s text (k.0) (h.0)

@@ -1,5 +1,5 @@
 -- What is found of a text before its item is made.
-use Rattle.std.specs.Prelude.{◌≡◌, ℕ, ℤ, List, Result, Ok, Err}
+use Rattle.std.specs.Prelude.{ℕ, ℤ, List, Result, Ok, Err}
 use Rattle.json_events.specs.JsonNumbers.{IsNumber, DenotesInteger}
 use Rattle.message_types.specs.declared.fields.Scalar.{Scalar}
 use Rattle.message_types.specs.declared.messages.Types.{Types}

@@ -1,33 +1,23 @@
 -- What the text of a scalar means, and what is wrong with it (the ProtoJSON guide, "Representation of each type"; RFC
 -- 8259, section 6): the text of a value of a path or a query, or of a map's key.
-use Rattle.std.specs.Prelude.{◌≢◌, ◌≡◌, ◌⊎◌, ℕ, ℤ, Bool, List, [], ◌∷◌, codes, Option, Some, None, Result, Ok, Err, if◌then◌else◌, slice_get, option_map, unwrap_or}
-use Rattle.std.specs.Str.{IsUtf8, bytes_eq}
+use Rattle.std.specs.Prelude.{◌≢◌, ◌≡◌, ◌⊎◌, ℕ, ℤ, Bool, List, codes, Option, Some, None, Result, Ok, Err, if◌then◌else◌}
+use Rattle.std.specs.Str.{IsUtf8}
 use Rattle.json_events.specs.JsonNumbers.{IsNumber, DenotesInteger}
-use Rattle.message_types.specs.declared.enums.EnumId.{EnumId}
-use Rattle.message_types.specs.declared.enums.EnumType.{EnumType}
-use Rattle.message_types.specs.declared.enums.EnumValue.{EnumValue}
 use Rattle.message_types.specs.declared.fields.Scalar.{Scalar}
-use Rattle.message_types.specs.declared.fields.Scalar.TheVariants.{Bool as BoolOf, Text as TextOf, Bytes as BytesOf, Enumeration}
+use Rattle.message_types.specs.declared.fields.Scalar.TheVariants.{Bool as BoolOf, Text as TextOf, Enumeration}
 use Rattle.message_types.specs.declared.messages.Types.{Types}
 use Rattle.schema.specs.Layers.{ItemLayer}
 use Rattle.schema.specs.Validity.{IsScalarItem}
 use Rattle.schema.specs.declared.value.Item.TheOpen.{Number, Truth, Text, Bytes, Message}
 use Rattle.schema.specs.declared.value.Item.{out-Item, Item}
+use Rattle.json_meanings.specs.EnumNames.{number_named, values_of}
+use Rattle.json_meanings.specs.JsonScalars.{IsNumberKind}
 use Rattle.protojson_read.specs.declared.fault.ScalarFault.{ScalarFault}
 use Rattle.protojson_read.specs.declared.fault.ScalarFault.TheVariants.{BadText, BadNumber, OutOfRange, BadEnum, NotUtf8, NoMemory}
 
 -- the text of a truth value
 abbrev pub truth_text : Bool → List ℕ
 truth_text b = if b then codes "true" else codes "false"
-
--- the values of an enum, in declared order; none where there is no such enum
-abbrev pub values_of : Types → EnumId → List EnumValue
-values_of types id = unwrap_or (option_map (λ (e : EnumType). e.values) (slice_get types.enums id.0)) []
-
--- the number of the first value that has the name
-abbrev pub number_named : List EnumValue → List ℕ → Option ℤ
-number_named [] name = None
-number_named (v ∷ vs) name = if bytes_eq v.name name then Some v.number else number_named vs name
 
 -- the number that a text names: that of an enum's value; nothing else has names
 abbrev pub named_number : Types → Scalar → List ℕ → Option ℤ
@@ -50,13 +40,6 @@ DenotesItem types scalar text (Message v) = ⊥
 -- a text means an item: it denotes it, and the item is one of the scalar kind
 abbrev pub IsScalarText : Types → Scalar → List ℕ → ItemLayer → Type 0
 IsScalarText types scalar text i = DenotesItem types scalar text i × IsScalarItem scalar i
-
--- the values of the scalar kind are numbers
-abbrev pub IsNumberKind : Scalar → Type 0
-IsNumberKind BoolOf = ⊥
-IsNumberKind TextOf = ⊥
-IsNumberKind BytesOf = ⊥
-IsNumberKind _ = Unit {0}
 
 -- the values of the scalar kind are those of an enum
 abbrev pub IsEnumKind : Scalar → Type 0
@@ -84,10 +67,11 @@ IsScalarTextFault types scalar text BadEnum =
 IsScalarTextFault types scalar text OutOfRange = IsNumberKind scalar × DenotesOther types scalar text
 IsScalarTextFault types scalar text NoMemory = ⊥
 
--- a reading of a text: the item that it means, or what is wrong with it; out of memory is free
+-- a reading of a text: the item that it means, or what is wrong with it. Out of memory is free for a string, which
+-- means something: no other item holds memory.
 abbrev pub IsScalarReading : Types → Scalar → List ℕ → Result Item ScalarFault → Type 0
 IsScalarReading types scalar text (Ok item) = IsScalarText types scalar text (out-Item item)
-IsScalarReading types scalar text (Err NoMemory) = Unit {0}
+IsScalarReading types scalar text (Err NoMemory) = (scalar ≡ TextOf) × IsUtf8 text
 IsScalarReading types scalar text (Err fault) = IsScalarTextFault types scalar text fault
 
 -- a text means an item, or there is something wrong with it

@@ -13,6 +13,6 @@ pub enum ScalarFault {
     BadEnum,
     /// It is not UTF-8 (RFC 3629).
     NotUtf8,
-    /// No memory was found for the item. Nothing is wrong with the text as far as it was read.
+    /// No memory was found for the item, which is a string. Nothing is wrong with its text.
     NoMemory,
 }

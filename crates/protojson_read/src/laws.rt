@@ -1,18 +1,20 @@
 //! Laws of the definitions.
-ghost use Rattle.std.specs.Prelude.{◌≡◌, ◌≢◌, ℕ, List, Result, Err};
+ghost use Rattle.std.specs.Prelude.{◌≡◌, ◌≢◌, ◌<◌, ◌^◌, ℕ, List, Result, Err, length};
+ghost use Rattle.std.specs.Str.{IsUtf8};
 ghost use Rattle.message_types.specs.declared.fields.Scalar.{Scalar as ScalarKind};
 ghost use Rattle.message_types.specs.declared.fields.Scalar.TheVariants.{Bytes};
 ghost use Rattle.message_types.specs.declared.messages.Types.{Types as AllTypes};
 ghost use Rattle.schema.specs.Layers.{ItemLayer};
 ghost use Rattle.schema.specs.Validity.{IsScalarItem};
 ghost use Rattle.schema.specs.declared.value.Item.{Item};
-ghost use Rattle.protojson_read.specs.ScalarTexts.{IsScalarText, IsScalarReading, IsRead};
+ghost use Rattle.protojson_read.specs.KeyTexts.{KeyLawsHold};
+ghost use Rattle.protojson_read.specs.ScalarTexts.{IsScalarText, IsScalarTextFault, IsScalarReading, IsRead};
 ghost use Rattle.protojson_read.specs.declared.fault.ScalarFault.{ScalarFault};
 ghost use Rattle.protojson_read.specs.declared.fault.ScalarFault.TheVariants.{NoMemory};
 
-use crate::meanings::meaning_of;
 use json_events::laws::texts_mean_one_value;
-use schema::{Scalar, Types};
+use json_integers::laws::{integers_are_computed, one_answer_of_a_text};
+use json_meanings::laws::numbers_are_read_exactly;
 
 /// Two readings of a text are one, where neither is out of memory.
 pub fn one_reading_of_a_text()
@@ -30,10 +32,32 @@ pub fn readings_are_scalars()
 {}
 
 /// Each text means an item, or there is something wrong with it.
-#[tactic(auto, using(crate::proofs::ReadingLemmas::read_of))]
-pub fn every_text_is_read(types: &Types, scalar: Scalar, text: &[u8])
-    requires { scalar ≢ Bytes }
-    ensures { IsRead types.now scalar text.now }
+pub fn every_text_is_read()
+    ensures { (types : AllTypes) (scalar : ScalarKind) (text : List ℕ) → scalar ≢ Bytes → length text < 2 ^ 64
+        → IsRead types scalar text }
 {
-    let _meaning = meaning_of(types, scalar, text);
+    one_answer_of_a_text();
+}
+
+/// It means one item at most, or has one fault, and not both.
+pub fn items_and_faults_are_apart()
+    ensures item { (types : AllTypes) (scalar : ScalarKind) (text : List ℕ) (i j : ItemLayer)
+        → IsScalarText types scalar text i → IsScalarText types scalar text j → i ≡ j }
+    ensures apart { (types : AllTypes) (scalar : ScalarKind) (text : List ℕ) (i : ItemLayer) (fault : ScalarFault)
+        → IsScalarText types scalar text i → IsScalarTextFault types scalar text fault → ⊥ }
+    ensures fault { (types : AllTypes) (scalar : ScalarKind) (text : List ℕ) (f g : ScalarFault)
+        → IsScalarTextFault types scalar text f → IsScalarTextFault types scalar text g → f ≡ g }
+{
+    texts_mean_one_value();
+}
+
+/// A text of a kind other than bytes is read as the key of a map in a JSON tree exactly as it is by itself, with the same
+/// faults.
+pub fn keys_are_read_as_texts()
+    ensures { (types : AllTypes) (scalar : ScalarKind) (text : List ℕ) → scalar ≢ Bytes → IsUtf8 text
+        → KeyLawsHold types scalar text }
+{
+    texts_mean_one_value();
+    integers_are_computed();
+    numbers_are_read_exactly();
 }

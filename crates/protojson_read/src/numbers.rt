@@ -3,7 +3,9 @@ ghost use Rattle.std.specs.Prelude.{◌≡◌, ◌↔◌, IsTrue, IfSome};
 ghost use Rattle.schema.specs.Validity.{IsScalarItem};
 ghost use Rattle.schema.specs.declared.value.Item.TheOpen.{Number};
 ghost use Rattle.protojson_read.specs.ScalarMeanings.{IsNumberReading, IsNumberMeaning};
-ghost use Rattle.protojson_read.specs.ScalarTexts.{values_of, number_named, named_number, IsNumberKind, IsEnumKind};
+ghost use Rattle.json_meanings.specs.EnumNames.{values_of, number_named};
+ghost use Rattle.json_meanings.specs.JsonScalars.{IsNumberKind};
+ghost use Rattle.protojson_read.specs.ScalarTexts.{named_number, IsEnumKind};
 
 use crate::fault::ScalarFault;
 use json_integers::{IntegerText, read_integer};

@@ -10,7 +10,7 @@ use std::alloc::Global;
 
 /// The item that the text of a scalar means. A number's text has JSON's grammar and nothing around it, and counts by
 /// its exact value. Time goes by the length of the text and of the enum's names.
-#[tactic(auto, using(crate::proofs::ReadingLemmas::fault_reading))]
+#[tactic(auto, using(crate::proofs::ReadingLemmas::fault_reading, crate::proofs::ReadingLemmas::no_room))]
 pub fn read_scalar(
     alloc: Global,
     types: &Types,

@@ -6,6 +6,7 @@ pub mod RequestRefusals
 pub mod RoutedRequest
 pub mod BuiltForms
 pub mod TranscodedRequest
+pub mod CauseOrder
 pub mod TranscodedView
 pub mod TranscodingSteps
 pub mod TranscodingExamples

@@ -6,7 +6,7 @@ use Rattle.path_router.specs.RouteChoice.{IsFound, IsNotFound, IsWrongMethod}
 use Rattle.path_router.specs.TargetPath.{IsTargetPath}
 use Rattle.path_router.specs.declared.captures.Span.{Span}
 
--- a method is not served: it is HEAD or CONNECT, byte for byte (RFC 9110, sections 9.3.2 and 9.3.6)
+-- a method that this product does not serve: HEAD or CONNECT, byte for byte (RFC 9110, sections 9.3.2 and 9.3.6)
 abbrev pub IsMethodNotServed : List ℕ → Type 0
 IsMethodNotServed method = (method ≡ codes "HEAD") ⊎ (method ≡ codes "CONNECT")
 

@@ -1,5 +1,5 @@
 use Rattle.std.proofs.Common.{arith}
-use Rattle.std.specs.Prelude.{◌^◌, ◌-◌, pos, negsuc}
+use Rattle.std.specs.Prelude.{◌^◌, pos, negsuc}
 use Rattle.std.proofs.lemmas.Int.{ints}
 use Rattle.message_types.specs.declared.fields.Scalar.TheVariants.{Uint64}
 use Rattle.protojson_read.proofs.ReadingLemmas.{number_told}

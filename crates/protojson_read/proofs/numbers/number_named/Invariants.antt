@@ -1,5 +1,5 @@
 use Rattle.std.proofs.Common.{◌≡◌, drop}
-use Rattle.protojson_read.specs.ScalarTexts.{number_named}
+use Rattle.json_meanings.specs.EnumNames.{number_named}
 use Rattle.protojson_read.proofs.numbers.number_named.Given as goal
 
 abbrev pub invariant-loop-value : goal.invariant-loop-value

@@ -1,4 +1,4 @@
-use Rattle.std.proofs.Common.{◌≡◌, ◌≢◌, ◌⊎◌, ℕ, zero, suc, List, [], ◌∷◌, codes, Some, slice_get, refl, ap, inl, inr, ⊎_elim, arith, lit<}
+use Rattle.std.proofs.Common.{◌≡◌, ◌≢◌, ℕ, zero, suc, List, [], ◌∷◌, codes, Some, slice_get, refl, ap, inl, inr, ⊎_elim, arith, lit<}
 use Rattle.std.specs.List.{AllByRecursion}
 use Rattle.http_rules.specs.TemplateMatch.{IsPathSegment, Matches}
 use Rattle.http_rules.specs.declared.template.Binding.{Binding}

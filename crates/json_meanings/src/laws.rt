@@ -1,0 +1,74 @@
+//! Laws of the definitions. Each is the contract of an empty function.
+ghost use Rattle.std.specs.Prelude.{◌≡◌, ◌↔◌, Option, Some, ℕ, ℤ, List};
+ghost use Rattle.base64.specs.GeneralPurpose.{IsBytes};
+ghost use Rattle.message_types.specs.declared.fields.Scalar.{Scalar};
+ghost use Rattle.message_types.specs.declared.messages.TypeId.{TypeId};
+ghost use Rattle.schema.specs.Soundness.{IsSound};
+ghost use Rattle.schema.specs.Validity.{IsValid};
+ghost use Rattle.schema.specs.declared.value.Value.{Value};
+ghost use Rattle.json_events.specs.JsonTree.{Json, Mark};
+ghost use Rattle.json_events.specs.JsonText.{Span, IsTextWith, marks_of};
+ghost use Rattle.json_events.specs.JsonTokens.{BeginsWith};
+ghost use Rattle.known_types.specs.BytesTexts.{IsBytesText};
+ghost use Rattle.json_meanings.specs.FaultPlaces.{Fault};
+ghost use Rattle.json_meanings.specs.FieldFaults.{BeginsTree, IsFirstFault, tree_tokens};
+ghost use Rattle.json_meanings.specs.FirstLaws.{HasTexts, IsAtFirstToken};
+ghost use Rattle.json_meanings.specs.JsonScalars.{IsNumberKind, Schema};
+ghost use Rattle.json_meanings.specs.ReadingLaws.{ReadingLawsHold};
+ghost use Rattle.json_meanings.specs.JsonDenotes.{Denotes};
+ghost use Rattle.json_meanings.specs.ScalarLaws.{NumberLawsHold, RangeLawsHold};
+ghost use Rattle.json_meanings.specs.SpelledBytes.{spelled_bytes};
+ghost use Rattle.json_meanings.specs.ValidLaws.{GivesValid, HasUtf8};
+
+use json_events::laws::{texts_have_one_tree, texts_mean_one_value};
+use json_integers::laws::integers_are_computed;
+use known_types::laws::one_meaning_of_a_text;
+
+/// A tree means at most one value, or its tokens have one first fault, which stays whatever follows; and reading them one
+/// after another finds it at its token.
+pub fn readings_hold()
+    ensures { (c : Schema) (id : TypeId) (n : Option ℕ) → ReadingLawsHold c id n }
+{}
+
+/// A text is read as a number exactly where it denotes an integer that the kind has. Where it denotes none it is BadNumber,
+/// and where it denotes one that the kind does not have it is OutOfRange.
+pub fn numbers_are_read_exactly()
+    ensures texts { (s : Scalar) (text : List ℕ) → IsNumberKind s → NumberLawsHold s text }
+    ensures ranges { (s : Scalar) (z : ℤ) → IsNumberKind s → RangeLawsHold s z }
+{
+    integers_are_computed();
+}
+
+/// The token with the first fault is the first such that the tokens up to it begin no accepted value: those before it
+/// begin one.
+pub fn faults_are_at_the_first_token()
+    ensures { (c : Schema) (id : TypeId) (n : Option ℕ) (ts : List Mark) (f : Fault) → IsSound c.types → HasTexts c
+        → IsFirstFault c id n ts f → IsAtFirstToken c id n ts f }
+{
+    readings_hold();
+}
+
+/// A text spells bytes in base64 exactly where these are computed of it.
+pub fn spelled_bytes_are_computed()
+    ensures { (text bytes : List ℕ) → IsBytes text → (IsBytesText text bytes ↔ (spelled_bytes text ≡ Some bytes)) }
+{
+    one_meaning_of_a_text();
+}
+
+/// The tokens of a text are those of its tree, and the tokens with which a text's begin are those with which a tree's do.
+pub fn texts_have_the_tokens_of_trees()
+    ensures tree { (j : Json) (s : List ℕ) (ts : List Span) → IsTextWith j s ts → marks_of ts ≡ tree_tokens j }
+    ensures begins { (bytes : List ℕ) (ts : List Span) → BeginsWith bytes ts → BeginsTree (marks_of ts) }
+{
+    texts_have_one_tree();
+}
+
+/// A value that a tree means is valid, where the strings of the tree are UTF-8, as those of a text are.
+pub fn read_values_are_valid()
+    ensures values { (c : Schema) (id : TypeId) (n : Option ℕ) (j : Json) (v : Value) → IsSound c.types → GivesValid c
+        → HasUtf8 j → Denotes c id n j v → IsValid c.types id v }
+    ensures strings { (j : Json) (s : List ℕ) (ts : List Span) → IsTextWith j s ts → HasUtf8 j }
+{
+    numbers_are_read_exactly();
+    texts_mean_one_value();
+}

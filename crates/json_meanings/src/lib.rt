@@ -1,0 +1,11 @@
+//! What JSON trees mean as protobuf values (the ProtoJSON guide), and the first fault of a list of tokens, as
+//! definitions with the laws that tie them. A reader of tokens is proved against them; none stands here.
+//!
+//! Begin with `laws`. Texts of the well-known types Timestamp, Duration and FieldMask are a parameter.
+#![tactic(auto)]
+
+pub mod examples;
+mod fault;
+pub mod laws;
+
+pub use fault::FieldKind;

@@ -1,0 +1,135 @@
+-- Worked examples of the texts of values, computed by the definitions.
+use Rattle.std.specs.Prelude.{◌≡◌, ℕ, pos, negsuc, List, [], ◌∷◌, false, true, codes, Option, Some, None}
+use Rattle.message_types.specs.declared.fields.Field.{Field}
+use Rattle.message_types.specs.declared.fields.Kind.{Kind}
+use Rattle.message_types.specs.declared.fields.Kind.TheVariants.{One as OneOf, Message as MessageOf}
+use Rattle.message_types.specs.declared.fields.Presence.{Presence}
+use Rattle.message_types.specs.declared.fields.Presence.TheVariants.{Implicit, Explicit}
+use Rattle.message_types.specs.declared.fields.Scalar.TheVariants.{Int32, Int64, Uint64, Bool as BoolOf, Text as TextOf, Bytes as BytesOf, Enumeration}
+use Rattle.message_types.specs.declared.fields.Shape.{Shape}
+use Rattle.message_types.specs.declared.fields.Shape.TheVariants.{Single, Member, Many as ManyOf, Map as MapOf}
+use Rattle.message_types.specs.declared.messages.Known.TheVariants.{Plain, Wrapper, Timestamp}
+use Rattle.message_types.specs.declared.messages.Types.{Types}
+use Rattle.schema.specs.declared.key.Key.{Key}
+use Rattle.schema.specs.declared.key.Key.TheVariants.{Number as NumberKey, Truth as TruthKey, Text as TextKey}
+use Rattle.schema.specs.declared.value.Item.{Item, Number, Truth, Text, Bytes, Message}
+use Rattle.schema.specs.declared.value.Slot.{Slot, One, Many, Pairs}
+use Rattle.schema.specs.declared.value.Value.{Value}
+use Rattle.protojson_write.specs.JsonOutput.{json_text, no_texts}
+
+-- a field of one name in JSON
+abbrev pub field : List ℕ → ℕ → Kind → Shape → Presence → Field
+field json n kind shape presence =
+    record { name = json; json = json; number = n; kind = kind; shape = shape; presence = presence; packed = false }
+
+-- a book, and a wrapper of int64; the kinds of books are NONE 0, NOVEL 1, FICTION 1
+abbrev pub book_types : Types
+book_types = record {
+  messages = record {
+    name = codes "p.Book";
+    known = Plain;
+    fields =
+        field (codes "title") 2 (OneOf TextOf) Single Implicit
+        ∷ field (codes "pages") 3 (OneOf Int32) Single Implicit
+        ∷ field (codes "marks") 4 (OneOf Int64) ManyOf Implicit
+        ∷ field (codes "kind") 5 (OneOf (Enumeration (record { 0 = 0 }))) Single Implicit
+        ∷ field (codes "cover") 8 (OneOf BytesOf) Single Implicit
+        ∷ field (codes "stock") 9 (OneOf Int32) (MapOf TextOf) Implicit
+        ∷ field (codes "person") 10 (OneOf TextOf) (Member 0) Explicit
+        ∷ field (codes "card") 11 (OneOf Uint64) (Member 0) Explicit
+        ∷ field (codes "lent") 12 (OneOf BoolOf) Single Implicit
+        ∷ field (codes "next") 14 (MessageOf (record { 0 = 0 })) Single Explicit
+        ∷ field (codes "parts") 15 (MessageOf (record { 0 = 0 })) ManyOf Implicit
+        ∷ field (codes "rows") 16 (OneOf BoolOf) (MapOf Int64) Implicit
+        ∷ field (codes "flags") 17 (MessageOf (record { 0 = 0 })) (MapOf BoolOf) Implicit
+        ∷ field (codes "price") 18 (MessageOf (record { 0 = 1 })) Single Explicit
+        ∷ [];
+  } ∷ record {
+    name = codes "google.protobuf.Int64Value";
+    known = Wrapper;
+    fields = field (codes "value") 1 (OneOf Int64) Single Implicit ∷ [];
+  } ∷ record {
+    name = codes "google.protobuf.Timestamp";
+    known = Timestamp;
+    fields = [];
+  } ∷ [];
+  enums = record {
+    name = codes "p.Kind";
+    values =
+        record { name = codes "NONE"; number = pos 0 }
+        ∷ record { name = codes "NOVEL"; number = pos 1 }
+        ∷ record { name = codes "FICTION"; number = pos 1 }
+        ∷ [];
+  } ∷ [];
+}
+
+-- the text of a book with these slots
+abbrev pub book_text : List (ℕ × Slot) → Option (List ℕ)
+book_text slots = json_text no_texts book_types (record { 0 = 0 }) None (record { fields = slots })
+
+-- the text of one field of it
+abbrev pub field_of_book : ℕ → List (ℕ × Slot) → Option (List ℕ)
+field_of_book n slots = json_text no_texts book_types (record { 0 = 0 }) (Some n) (record { fields = slots })
+
+-- an empty message
+abbrev pub nothing : Value
+nothing = record { fields = [] }
+
+-- an item that is a message with these slots
+abbrev pub holding : List (ℕ × Slot) → Item
+holding slots = Message (record { fields = slots })
+
+-- a slot that is a map with these entries
+abbrev pub map_of : List (Key × Item) → Slot
+map_of entries = Pairs (record { entries = entries })
+
+-- messages: their members by number, maps by key, and one in another
+pub record MessageExamplesHold : Type 0 where
+  pub empty : book_text [] ≡ Some (codes "{}")
+  pub book :
+      book_text ((3, One (Number (pos 100))) ∷ (4, Many (Number (negsuc 4) ∷ [])) ∷ (5, One (Number (pos 1))) ∷ [])
+      ≡ Some (codes "{\"pages\":100,\"marks\":[\"-5\"],\"kind\":\"NOVEL\"}")
+  pub cover : book_text ((8, One (Bytes (251 ∷ 255 ∷ []))) ∷ []) ≡ Some (codes "{\"cover\":\"+/8=\"}")
+  pub texts :
+      book_text ((9, map_of ((TextKey [], Number (pos 0)) ∷ (TextKey (codes "\""), Number (negsuc 0)) ∷ [])) ∷ [])
+      ≡ Some (codes "{\"stock\":{\"\":0,\"\\\"\":-1}}")
+  pub numbers :
+      book_text ((16, map_of ((NumberKey (negsuc 1), Truth true) ∷ (NumberKey (pos 10), Truth false) ∷ [])) ∷ [])
+      ≡ Some (codes "{\"rows\":{\"-2\":true,\"10\":false}}")
+  pub truths : book_text ((17, map_of ((TruthKey false, holding []) ∷ (TruthKey true, holding []) ∷ [])) ∷ [])
+      ≡ Some (codes "{\"flags\":{\"false\":{},\"true\":{}}}")
+  pub nested :
+      book_text
+      ((14, One (holding ((14, One (holding [])) ∷ [])))
+      ∷ (15, Many (holding [] ∷ holding ((12, One (Truth true)) ∷ []) ∷ []))
+      ∷ [])
+      ≡ Some (codes "{\"next\":{\"next\":{}},\"parts\":[{},{\"lent\":true}]}")
+  pub wrapper : book_text ((18, One (holding ((1, One (Number (pos 7))) ∷ []))) ∷ []) ≡ Some (codes "{\"price\":\"7\"}")
+  pub empty_wrapper : book_text ((18, One (holding [])) ∷ []) ≡ Some (codes "{\"price\":\"0\"}")
+  pub timestamp : json_text no_texts book_types (record { 0 = 2 }) None nothing ≡ None
+
+-- scalars: escapes, numbers in quotes, and an enum's number without a name
+pub record ScalarExamplesHold : Type 0 where
+  pub string : field_of_book 2 ((2, One (Text (34 ∷ 92 ∷ 47 ∷ 8 ∷ 9 ∷ 10 ∷ 12 ∷ 13 ∷ 0 ∷ 31 ∷ 127 ∷ []))) ∷ [])
+      ≡ Some (codes "\"\\\"\\\\/\\b\\t\\n\\f\\r\\u0000\\u001f\u{7f}\"")
+  pub int32 : field_of_book 3 ((3, One (Number (negsuc 2147483647))) ∷ []) ≡ Some (codes "-2147483648")
+  pub uint64 : field_of_book 11 ((11, One (Number (pos 18446744073709551615))) ∷ [])
+      ≡ Some (codes "\"18446744073709551615\"")
+  pub truth : field_of_book 12 ((12, One (Truth true)) ∷ []) ≡ Some (codes "true")
+  pub first_name : field_of_book 5 ((5, One (Number (pos 1))) ∷ []) ≡ Some (codes "\"NOVEL\"")
+  pub no_name : field_of_book 5 ((5, One (Number (negsuc 0))) ∷ []) ≡ Some (codes "-1")
+
+-- single fields: absent ones print their defaults, or null where absence is told from the default
+pub record PartExamplesHold : Type 0 where
+  pub text : field_of_book 2 [] ≡ Some (codes "\"\"")
+  pub int32 : field_of_book 3 [] ≡ Some (codes "0")
+  pub list : field_of_book 4 [] ≡ Some (codes "[]")
+  pub kind : field_of_book 5 [] ≡ Some (codes "\"NONE\"")
+  pub bytes : field_of_book 8 [] ≡ Some (codes "\"\"")
+  pub map : field_of_book 9 [] ≡ Some (codes "{}")
+  pub member : field_of_book 10 [] ≡ Some (codes "null")
+  pub truth : field_of_book 12 [] ≡ Some (codes "false")
+  pub message : field_of_book 14 [] ≡ Some (codes "null")
+  pub int64 : json_text no_texts book_types (record { 0 = 1 }) (Some 1) nothing ≡ Some (codes "\"0\"")
+  pub list_of_one : field_of_book 4 ((4, Many (Number (pos 0) ∷ [])) ∷ []) ≡ Some (codes "[\"0\"]")
+  pub no_field : field_of_book 1 [] ≡ None

@@ -1,0 +1,41 @@
+//! Why a value is not shown.
+ghost use Rattle.std.specs.Prelude.{◌≡◌};
+ghost use Rattle.protojson_write.specs.declared.fault.ShowFault.TheVariants.{NoMemory as no_memory};
+
+use base::NoMemory;
+use std::alloc::{AllocError, AllocFailed};
+
+/// Why a value is not shown.
+#[derive(Clone, Copy, Debug, PartialEq, Eq)]
+pub enum ShowFault {
+    /// It has no text.
+    Unprintable,
+    /// Its text is longer than the limit.
+    TooLong,
+    /// Out of memory.
+    NoMemory,
+}
+
+impl From<NoMemory> for ShowFault {
+    ghost from_gives = { λ _ f. f ≡ no_memory };
+
+    fn from(_: NoMemory) -> ShowFault {
+        ShowFault::NoMemory
+    }
+}
+
+impl From<AllocError> for ShowFault {
+    ghost from_gives = { λ _ f. f ≡ no_memory };
+
+    fn from(_: AllocError) -> ShowFault {
+        ShowFault::NoMemory
+    }
+}
+
+impl<T: Drop> From<AllocFailed<T>> for ShowFault {
+    ghost from_gives = { λ _ f. f ≡ no_memory };
+
+    fn from(_: AllocFailed<T>) -> ShowFault {
+        ShowFault::NoMemory
+    }
+}
