@@ -19,7 +19,6 @@ use Rattle.http_rules.specs.declared.template.Binding.{Binding}
 use Rattle.http_rules.specs.declared.template.Template.{Template}
 use Rattle.linked_api.specs.declared.api.Api.{Api}
 use Rattle.message_types.specs.declared.fields.Scalar.{Scalar}
-use Rattle.message_types.specs.declared.fields.Scalar.TheVariants.{Bytes}
 use Rattle.message_types.specs.declared.messages.TypeId.{TypeId}
 use Rattle.message_types.specs.declared.messages.Types.{Types}
 use Rattle.path_router.specs.declared.captures.Span.{Span}
@@ -32,11 +31,7 @@ use Rattle.schema.specs.declared.value.Slot.{One}
 -- each text means an item or has a fault
 abbrev pub EachTextIsRead : Type 0
 EachTextIsRead =
-    (types : Types) (scalar : Scalar) (text : List ℕ) → scalar ≢ Bytes → length text < 2 ^ 64 → IsRead types scalar text
-
--- decoding makes no text longer
-abbrev pub DecodesShort : Type 0
-DecodesShort = (t : Template) (index : ℕ) (text : List ℕ) → length (captured t index text) ≤ length text
+    (types : Types) (scalar : Scalar) (text : List ℕ) → IsRead types scalar text
 
 -- the item of an index has what each has
 each_found : {X : Type 0} (P : X → Type 0) (xs : List X) (i : ℕ) (x : X) → AllByRecursion P xs
@@ -44,13 +39,6 @@ each_found : {X : Type 0} (P : X → Type 0) (xs : List X) (i : ℕ) (x : X) →
 each_found P [] i x a e = absurd (cc e)
 each_found P (y ∷ xs) zero x a e = let same : y ≡ x = cc e in subst P same a.0
 each_found P (y ∷ xs) (suc i) x a e = each_found P xs i x a.1 e
-
--- a part of a text is not longer
-part_shorter : (text : List ℕ) (from to : ℕ) → from ≤ to → length (slice_range text from to) ≤ length text
-part_shorter text from to h =
-    let all = ap length (drop_split text from to h) in
-    let sum = length-append (slice_range text from to) (drop to text) in
-    omega (arith, all, sum, length-drop from text)
 
 module _ (types : Types) (input : TypeId) (numbers text : List ℕ) where
   -- what is wrong with a text is wrong with the value
@@ -64,13 +52,13 @@ module _ (types : Types) (input : TypeId) (numbers text : List ℕ) where
   told faults.NoMemory h = absurd h.wrong
 
   -- a text sets its field or is at fault
-  each_value : EachTextIsRead → EndsAtScalar types input numbers → length text < 2 ^ 64
+  each_value : EachTextIsRead → EndsAtScalar types input numbers
       → ((s : Setting) × MeansSetting types input numbers text s)
       ⊎ ((k : ValueKind) × IsValueFault types input numbers text k)
-  each_value read e short =
+  each_value read e =
       elim (cases_lt 100 (length numbers)) [
         | inl deep ↦ inr (kinds.TooDeep, deep)
-        | inr shallow ↦ elim (read types e.scalar text e.not_bytes short) [
+        | inr shallow ↦ elim (read types e.scalar text) [
           | inl r ↦ inl (
             record { path = numbers; slot = One (roll-Item r.0) },
             record {
@@ -86,8 +74,8 @@ module _ (types : Types) (input : TypeId) (numbers text : List ℕ) where
         ]
       ]
 
-module _ (read : EachTextIsRead) (decodes : DecodesShort) (types : Types) (input : TypeId) (b : Binding) (path : List ℕ)
-    (spans : List Span) (r : AreReadable types input b path spans) (short : length path < 2 ^ 64) where
+module _ (read : EachTextIsRead) (types : Types) (input : TypeId) (b : Binding) (path : List ℕ) (spans : List Span)
+    (r : AreReadable types input b path spans) where
   -- a variable sets its field or is at fault
   each_variable : (i : ℕ) → i < length b.template.variables
       → ((s : Setting) × SetsAt types input b path spans i s) ⊎ ((k : ValueKind) × FailsAt types input b path spans i k)
@@ -95,14 +83,6 @@ module _ (read : EachTextIsRead) (decodes : DecodesShort) (types : Types) (input
       let numbers = there_is b.paths i (omega (arith, r.one_path_each, lt)) in
       let span = there_is spans i (omega (arith, r.one_span_each, lt)) in
       let text = captured b.template i (slice_range path span.0.from span.0.to) in
-      let inside = each_found (λ (s : Span). (s.from ≤ s.to) × (s.to ≤ length path)) spans i span.0 r.inside span.1 in
-      let few : length text < 2 ^ 64 =
-      omega (
-        arith,
-        decodes b.template i (slice_range path span.0.from span.0.to),
-        part_shorter path span.0.from span.0.to inside.0,
-        short,
-      ) in
       let variable : IsVariable b path spans i numbers.0 text = record {
         there = lt;
         numbers_are = numbers.1;
@@ -110,7 +90,7 @@ module _ (read : EachTextIsRead) (decodes : DecodesShort) (types : Types) (input
             ap (option_map (λ (s : Span). captured b.template i (slice_range path s.from s.to))) span.1;
       } in
       let ends = each_found (EndsAtScalar types input) b.paths i numbers.0 r.ends numbers.1 in
-      elim (each_value types input numbers.0 text read ends few) [
+      elim (each_value types input numbers.0 text read ends) [
         | inl s ↦ inl (s.0, record { numbers = numbers.0; text = text; variable = variable; sets = s.1 })
         | inr k ↦ inr (k.0, record { numbers = numbers.0; text = text; variable = variable; wrong = k.1 })
       ]
@@ -151,15 +131,15 @@ fault_told : (n : ℕ) (kind : ValueKind) → ◌≡◌ {A = Result Assignments 
 fault_told n kind e = let same : Path n kind ≡ NoMemory = cc e in cc same
 
 -- each path is bound or refused
-pub each_path : EachTextIsRead → DecodesShort → (api : Api) (index : ℕ) (path : List ℕ) (spans : List Span)
+pub each_path : EachTextIsRead → (api : Api) (index : ℕ) (path : List ℕ) (spans : List Span)
     → AreCapturesOf api index path spans → (s : BindsScalars api index) → IsTemplate s.binding.template
-    → length s.binding.paths ≡ length s.binding.template.variables → length path < 2 ^ 64
+    → length s.binding.paths ≡ length s.binding.template.variables
     → HasBinding api index path spans
-each_path read decodes api index path spans captures s template paths short =
+each_path read api index path spans captures s template paths =
     let b = s.binding in
     let input = s.method.input in
     let r = readable api index path spans b s.method s.call template paths captures s in
-    elim (each_first read decodes api.types input b path spans r short (length b.template.variables)
+    elim (each_first read api.types input b path spans r (length b.template.variables)
     (let le : length b.template.variables ≤ length b.template.variables = omega arith in le)) [
       | inl o ↦ (
         Ok (assignments [] o.0),

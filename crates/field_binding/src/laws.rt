@@ -1,5 +1,5 @@
 //! Laws of the definitions that the calls' contracts cite. Each is the contract of an empty function.
-ghost use Rattle.std.specs.Prelude.{◌≡◌, ◌≢◌, ◌<◌, ◌^◌, ℕ, List, Result, Ok, Err, length};
+ghost use Rattle.std.specs.Prelude.{◌≡◌, ◌≢◌, ℕ, List, Result, Ok, Err};
 ghost use Rattle.field_binding.specs.Assignments.{Assignments};
 ghost use Rattle.field_binding.specs.PathSettings.{AreCapturesOf, BindsScalars, IsPathBinding};
 ghost use Rattle.field_binding.specs.RequestMessages.{IsInput, IsOverlayOf, IsRequestMessage};
@@ -23,11 +23,10 @@ pub fn one_path_binding()
 /// Each path is bound, or a variable of it is at fault.
 pub fn each_path_is_bound()
     ensures { (api : Api) (index : ℕ) (path : List ℕ) (spans : List Span) → IsLinked api
-        → AreCapturesOf api index path spans → BindsScalars api index → length path < 2 ^ 64
+        → AreCapturesOf api index path spans → BindsScalars api index
         → (r : Result Assignments BindFault) × IsPathBinding api index path spans r × (r ≢ Err no_memory) }
 {
     linked_api::laws::bindings_are_servable();
-    http_rules::laws::decoding_does_not_lengthen();
     protojson_read::laws::every_text_is_read();
 }
 

@@ -85,15 +85,7 @@ module _ (s : List ℕ) (e : are_parts (cut_number s) ≡ true) where
   pub parts_answer : length s < 2 ^ 64 → IsIntegerText s (parts_text (cut_number s))
   parts_answer h = told_is _ (magnitude_found (cut_number s) (parts_are s e) (short_digits h))
 
--- each text has an answer
-pub some_answer : (s : List ℕ) → length s < 2 ^ 64 → (x : IntegerText) × IsIntegerText s x
-some_answer s h = choice (are_parts (cut_number s)) refl
-  where
-    choice : (t : Bool) → are_parts (cut_number s) ≡ t → (x : IntegerText) × IsIntegerText s x
-    choice true e = (parts_text (cut_number s), parts_answer s e h)
-    choice false e = (NotANumber, no_number s e)
-
--- and one alone, as a number is one integer at most
+-- a text has one answer alone, as a number is one integer at most
 module _ (one : (y z : ℤ) (s : List ℕ) → DenotesInteger y s → DenotesInteger z s → y ≡ z) (s : List ℕ) where
   pub one_answer : (x y : IntegerText) → IsIntegerText s x → IsIntegerText s y → x ≡ y
   one_answer NotANumber NotANumber h k = refl

@@ -1,12 +1,16 @@
 -- The integer that is computed of a text is the one that the text denotes.
-use Rattle.std.proofs.Common.{◌≡◌, ℕ, zero, suc, ◌*◌, ◌^◌, ◌%◌, ◌/◌, ◌<◌, ◌≤◌, Bool, true, false, cond, eqb, List, length, Some, None, refl, sym, ap, ◌∙◌, arith}
-use Rattle.std.specs.Prelude.{ℤ, pos, negsuc, ◌↔◌}
+use Rattle.std.proofs.Common.{◌≡◌, inl, inr, ℕ, zero, suc, ◌*◌, ◌^◌, ◌%◌, ◌/◌, ◌<◌, ◌≤◌, Bool, true, false, cond, eqb, List, length, Option, Some, None, refl, sym, ap, ◌∙◌, arith}
+use Rattle.std.specs.Prelude.{ℤ, pos, negsuc, ◌↔◌, nat_abs}
+use Rattle.std.proofs.lemmas.Bool.{cases_lt}
 use Rattle.std.proofs.Math.Nat.{mul-mod_left, mul-div_cancel, mod-eq-sub-div-mul, div-mul-le_self, one-le-pow}
 use Rattle.std.proofs.lemmas.Bool.Decides.{nat_tests}
 use Rattle.json_events.specs.JsonNumbers.{IsNumber, NumberParts, divisor, fraction_digits, exponent_value, with_minus, DenotesInteger}
 use Rattle.json_integers.specs.ExactIntegers.{exact_of, exact_integer, quotient_of}
 use Rattle.json_integers.specs.NumberCut.{are_parts, cut_number}
-use Rattle.json_integers.proofs.AnswerLemmas.{same_parts}
+use Rattle.json_integers.specs.IntegerTexts.{IsIntegerText}
+use Rattle.json_integers.specs.declared.integer_text.IntegerText.{IntegerText}
+use Rattle.json_integers.specs.declared.integer_text.IntegerText.TheVariants.{NotANumber, NotAnInteger, PastRange, Integer}
+use Rattle.json_integers.proofs.AnswerLemmas.{same_parts, no_number}
 use Rattle.json_integers.proofs.CutLemmas.{cut_text, parts_are, are_parts_of}
 
 -- a number passes the tests of its cut
@@ -81,3 +85,23 @@ module _ (s : List ℕ) where
   -- a text denotes an integer exactly where that is computed
   pub exact_is : (z : ℤ) → DenotesInteger z s ↔ (exact_integer s ≡ Some z)
   exact_is z = (computed z, denoted z)
+
+-- each text has an answer
+pub each_answer : (s : List ℕ) → (x : IntegerText) × IsIntegerText s x
+each_answer s = by_number (are_parts (cut_number s)) refl
+  where
+    of_integer : (z : ℤ) → DenotesInteger z s → (x : IntegerText) × IsIntegerText s x
+    of_integer z d =
+        elim (cases_lt (nat_abs z) (2 ^ 64)) [
+          | inl told ↦ (Integer z, (d, told))
+          | inr past ↦ (PastRange, (z, d, λ told. omega (arith, past, told)))
+        ]
+
+    by_integer : are_parts (cut_number s) ≡ true → (o : Option ℤ) → exact_integer s ≡ o
+        → (x : IntegerText) × IsIntegerText s x
+    by_integer number None e = (NotAnInteger, ((number_tested s).1 number, λ z d. absurd (cc (e, (exact_is s z).0 d))))
+    by_integer number (Some z) e = of_integer z ((exact_is s z).1 e)
+
+    by_number : (t : Bool) → are_parts (cut_number s) ≡ t → (x : IntegerText) × IsIntegerText s x
+    by_number true e = by_integer e (exact_integer s) refl
+    by_number false e = (NotANumber, no_number s e)

@@ -1,5 +1,5 @@
 //! Laws of the definitions.
-ghost use Rattle.std.specs.Prelude.{◌≡◌, ◌<◌, ◌^◌, ◌↔◌, ℕ, ℤ, List, Some, true, length};
+ghost use Rattle.std.specs.Prelude.{◌≡◌, ◌↔◌, ℕ, ℤ, List, Some, true};
 ghost use Rattle.json_events.specs.JsonNumbers.{IsNumber, DenotesInteger};
 ghost use Rattle.json_integers.specs.ExactIntegers.{exact_integer};
 ghost use Rattle.json_integers.specs.IntegerTexts.{IsIntegerText};
@@ -10,7 +10,7 @@ use json_events::laws::texts_mean_one_value;
 
 /// A text has one answer, and one alone.
 pub fn one_answer_of_a_text()
-    ensures some { (text : List ℕ) → length text < 2 ^ 64 → (x : IntegerText) × IsIntegerText text x }
+    ensures some { (text : List ℕ) → (x : IntegerText) × IsIntegerText text x }
     ensures one { (text : List ℕ) (x y : IntegerText) → IsIntegerText text x → IsIntegerText text y → x ≡ y }
 {
     texts_mean_one_value();

@@ -7,7 +7,7 @@ use Rattle.message_types.specs.declared.messages.TypeId.{TypeId}
 use Rattle.schema.specs.declared.value.Value.{Value}
 use Rattle.json_events.specs.JsonTree.{Json, Mark}
 use Rattle.json_meanings.specs.FaultPlaces.{Fault, at_once, behind, onward, size}
-use Rattle.json_meanings.specs.FieldFaults.{IsFirstFault, tree_tokens}
+use Rattle.json_meanings.specs.FieldFaults.{BeginsValue, IsFirstFault, tree_tokens}
 use Rattle.json_meanings.specs.JsonDenotes.{Denotes, alone, part_spot, read_at, reading, spot_of, value}
 use Rattle.json_meanings.specs.JsonScalars.{Schema}
 use Rattle.json_meanings.specs.ReadingLaws.{ReadingLawsHold}
@@ -141,6 +141,18 @@ first_of_run c id n ts more f j is p =
     ∙ (run_append c (start (spot_of c id n)) ts more
     ∙ ap (λ r. onward r (λ m. behind (length ts) (run c m more))) p))
 
+-- tokens that begin an accepted value are taken
+pub run_of_begun : (c : Schema) (id : TypeId) (n : Option ℕ) (ts : List Mark) → BeginsValue c id n ts
+    → (l : Levels) × Stands c id n l ts
+run_of_begun c id n ts (j, more, v, is, means) = by_run (run c (start (spot_of c id n)) ts) refl
+  where
+    clash : (f : Fault) → ◌≡◌ {A = Result Value Fault} (Ok v) (Err f) → ⊥
+    clash f p = absurd cc
+
+    by_run : (r : Result Levels Fault) → run c (start (spot_of c id n)) ts ≡ r → (l : Levels) × Stands c id n l ts
+    by_run (Ok l) e = (l, e)
+    by_run (Err f) e = absurd (clash f (sym means ∙ first_of_run c id n ts more f j is e))
+
 -- one token more
 run_more : (c : Schema) (s l : Levels) (ts : List Mark) (m : Mark) → run c s ts ≡ Ok l → run c s (ts ++ m ∷ [])
     ≡ behind (length ts) (onward (at_once (step c l m)) (λ n. Ok n))
@@ -192,6 +204,7 @@ readings c id n = record {
   one_value = λ j v w p q. ok_same v w (sym p ∙ q);
   value_or_fault = λ j. by_reading j (reading c id n j) refl;
   fault_stays = λ ts more f j first is. first_of_run c id n ts more f j is (run_of_first c id n ts f first);
+  one_fault = λ ts f g first other. fault_same f g (sym (run_of_first c id n ts f first) ∙ run_of_first c id n ts g other);
   begins_none =
       λ ts f first begins. clash_value begins.2 f
       (sym begins.4 ∙ first_of_run c id n ts begins.1 f begins.0 begins.3 (run_of_first c id n ts f first));
@@ -220,6 +233,9 @@ readings c id n = record {
       (sym (tree_run c (spot_of c id n) j) ∙ stands) over;
 }
   where
+    fault_same : (f g : Fault) → ◌≡◌ {A = Result Levels Fault} (Err f) (Err g) → f ≡ g
+    fault_same f g p = cc
+
     clash_value : (v : Value) (f : Fault) → ◌≡◌ {A = Result Value Fault} (Ok v) (Err f) → ⊥
     clash_value v f p = absurd cc
 

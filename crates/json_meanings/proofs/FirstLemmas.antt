@@ -1,6 +1,6 @@
 -- The tokens before a tree's first fault begin an accepted value: what has begun is closed there, and a key that has no
 -- value yet is given one.
-use Rattle.std.proofs.Common.{◌≡◌, ◌∙◌, ◌≤◌, ◌<◌, ◌+◌, ◌-◌, ◌⊎◌, inl, inr, sym, ap, subst, refl, arith, ℕ, zero, suc, List, ◌∷◌, Result, Ok, Err}
+use Rattle.std.proofs.Common.{◌≡◌, ◌∙◌, ◌≤◌, ◌<◌, ◌+◌, ◌-◌, ◌⊎◌, inl, inr, sym, ap, subst, refl, arith, ℕ, zero, suc, List, [], ◌∷◌, take, Result, Ok, Err}
 use Rattle.std.proofs.lemmas.Bool.{cases_lt}
 use Rattle.json_events.specs.JsonTree.{Json, Items, Pairs, Mark, literal, number, string, array, object, no_items, item, no_pairs, pair, closes, digits, text, name}
 use Rattle.json_events.specs.declared.state.Bracket.TheVariants.{Array, Object}
@@ -11,9 +11,10 @@ use Rattle.json_meanings.specs.ReadingSpots.{Filled, OpenArray, OpenObject, Spot
 use Rattle.json_meanings.specs.SpotTables.{fills, names_spot, opens_array, opens_object}
 use Rattle.json_meanings.specs.declared.fault.FieldKind.{FieldKind}
 use Rattle.json_meanings.proofs.FaultLemmas.{value_within}
-use Rattle.json_meanings.proofs.FrontLemmas.{ShareFront, share_behind, share_tree}
+use Rattle.json_meanings.proofs.FrontLemmas.{ShareFront, share_behind, share_tree, take_behind}
 use Rattle.json_meanings.proofs.ReadyLemmas.{IsReady}
 use Rattle.json_meanings.proofs.TokenLemmas.{item_tokens, pair_tokens, with_tokens}
+use Rattle.json_meanings.proofs.WordLemmas.{AreSpellable, IsSpellableTree, spellable_parts, spellable_then}
 
 -- there is no fault at the first tokens, so many
 abbrev pub IsClean : {A : Type 0} → ℕ → Result A Fault → Type 0
@@ -28,28 +29,40 @@ clean_behind m n k (Err f) is h = omega (arith, is, h)
 one_more : (n : ℕ) → suc n ≡ 1 + n
 one_more n = omega arith
 
+-- what is spelled of a tree and behind it
+words_behind : (k m : ℕ) (j : Json) (ms us : List Mark) → k ≡ size j + m → AreSpellable (take k (with_tokens j ms))
+    → (AreSpellable (take m ms) → AreSpellable us) → AreSpellable (with_tokens j us)
+words_behind k m j ms us is w then =
+    let parts = spellable_parts j (take m ms) (subst AreSpellable (take_behind k m j ms is) w) in
+    spellable_then j us parts.0 (then parts.1)
+
 module _ (c : Schema) where
-  -- a tree that is accepted at a spot, and whose tokens begin as those of another do
+  -- a tree that is accepted at a spot, and whose tokens begin as those of another do; it has a text, if they do
   abbrev pub HasFront : Spot → ℕ → Json → Type 0
   HasFront spot n j =
       (k : Json) × (x : Filled) × (value c spot k ≡ Ok x)
       × ((ls ms : List Mark) → ShareFront n (with_tokens k ls) (with_tokens j ms))
+      × ((ms : List Mark) → AreSpellable (take n (with_tokens j ms)) → IsSpellableTree k)
 
   abbrev HasItems : OpenArray → ℕ → Items → Type 0
   HasItems a n js =
       (ks : Items) × (x : Filled) × (items c a ks ≡ Ok x)
       × ((ls ms : List Mark) → ShareFront n (item_tokens ks ls) (item_tokens js ms))
+      × ((ms : List Mark) → AreSpellable (take n (item_tokens js ms)) → AreSpellable (item_tokens ks []))
 
   abbrev HasMembers : OpenObject → ℕ → Pairs → Type 0
   HasMembers o n ps =
       (qs : Pairs) × (x : Filled) × (members c o qs ≡ Ok x)
       × ((ls ms : List Mark) → ShareFront n (pair_tokens qs ls) (pair_tokens ps ms))
+      × ((ms : List Mark) → AreSpellable (take n (pair_tokens ps ms)) → AreSpellable (pair_tokens qs []))
 
   -- a token without brackets
   leaf_front : (spot : Spot) (j : Json) (n : ℕ) (r : Result Filled FieldKind) → value c spot j ≡ at_once r → n < size j
-      → IsClean (suc n) (value c spot j) → HasFront spot (suc n) j
-  leaf_front spot j n (Ok x) is low clean = (j, x, is, λ ls ms. share_tree (suc n) j ls ms low)
-  leaf_front spot j n (Err k) is low clean =
+      → IsClean (suc n) (value c spot j)
+      → ((ms : List Mark) → AreSpellable (take (suc n) (with_tokens j ms)) → IsSpellableTree j)
+      → HasFront spot (suc n) j
+  leaf_front spot j n (Ok x) is low clean words = (j, x, is, (λ ls ms. share_tree (suc n) j ls ms low), words)
+  leaf_front spot j n (Err k) is low clean words =
       let h : suc n ≤ 0 = subst (IsClean (suc n)) is clean in absurd (omega (arith, h))
 
   array_is : (spot : Spot) (js : Items) (a : OpenArray) → opens_array spot ≡ Ok a
@@ -79,8 +92,11 @@ module _ (c : Schema)
     pub value_front : (spot : Spot) (j : Json) (n : ℕ) → n < size j → IsClean (suc n) (value c spot j)
         → HasFront c spot (suc n) j
     value_front spot (literal m) n low clean = leaf_front c spot (literal m) n (fills c spot (name m)) refl low clean
+        (λ ms h. (h.0, tt))
     value_front spot (number t) n low clean = leaf_front c spot (number t) n (fills c spot (digits t)) refl low clean
+        (λ ms h. (h.0, tt))
     value_front spot (string t) n low clean = leaf_front c spot (string t) n (fills c spot (text t)) refl low clean
+        (λ ms h. (h.0, tt))
     value_front spot (array js) n low clean =
         by_array (opens_array spot) refl (λ a h. items_front a js n (omega (arith, low)) h)
       where
@@ -93,8 +109,13 @@ module _ (c : Schema)
         by_array (Ok a) e ih =
             let h = ih a
             (clean_behind 1 n (suc n) (items c a js) (one_more n)
-            (subst (IsClean (suc n)) (array_is c spot js a e) clean)) in
-            (array h.0, h.1, array_is c spot h.0 a e ∙ ap (behind 1) h.2, λ ls ms. (refl, h.3 ls ms))
+            (subst (IsClean (suc n)) (array_is c spot js a e) clean)) in (
+              array h.0,
+              h.1,
+              array_is c spot h.0 a e ∙ ap (behind 1) h.2,
+              (λ ls ms. (refl, h.3 ls ms)),
+              λ ms w. (tt, h.4 ms w.1),
+            )
     value_front spot (object ps) n low clean =
         by_object (opens_object c spot) refl (λ o h. members_front o ps n (omega (arith, low)) h)
       where
@@ -108,13 +129,18 @@ module _ (c : Schema)
         by_object (Ok o) e ih =
             let h = ih o
             (clean_behind 1 n (suc n) (members c o ps) (one_more n)
-            (subst (IsClean (suc n)) (object_is c spot ps o e) clean)) in
-            (object h.0, h.1, object_is c spot h.0 o e ∙ ap (behind 1) h.2, λ ls ms. (refl, h.3 ls ms))
+            (subst (IsClean (suc n)) (object_is c spot ps o e) clean)) in (
+              object h.0,
+              h.1,
+              object_is c spot h.0 o e ∙ ap (behind 1) h.2,
+              (λ ls ms. (refl, h.3 ls ms)),
+              λ ms w. (tt, h.4 ms w.1),
+            )
 
     items_front : (a : OpenArray) (js : Items) (n : ℕ) → n ≤ items_size js → IsClean n (items c a js)
         → HasItems c a n js
-    items_front a js zero low clean = (no_items, many a.items, refl, λ ls ms. tt)
-    items_front a no_items (suc zero) low clean = (no_items, many a.items, refl, λ ls ms. (refl, tt))
+    items_front a js zero low clean = (no_items, many a.items, refl, (λ ls ms. tt), λ ms w. (tt, tt))
+    items_front a no_items (suc zero) low clean = (no_items, many a.items, refl, (λ ls ms. (refl, tt)), λ ms w. (tt, tt))
     items_front a no_items (suc (suc n)) low clean = absurd (omega (arith, low))
     items_front a (item j js) (suc n) low clean =
         by_value (value c (element a) j) refl (λ less h. value_front (element a) j n less h)
@@ -131,19 +157,20 @@ module _ (c : Schema)
               item h.0 no_items,
               many (array_with a h.1).items,
               item_is c a h.0 no_items (Ok h.1) h.2,
-              λ ls ms. h.3
-                  (closes Array ∷ ls) (item_tokens js ms),
+              (λ ls ms. h.3 (closes Array ∷ ls) (item_tokens js ms)),
+              λ ms w. spellable_then h.0 (closes Array ∷ []) (h.4 (item_tokens js ms) w) (tt, tt),
             )
         by_value (Ok x) e first others = by_place (cases_lt n (size j))
           where
             by_place : ((n < size j) ⊎ (size j ≤ n)) → HasItems c a (suc n) (item j js)
-            by_place (inl less) = (
-              item j no_items,
-              many (array_with a x).items,
-              item_is c a j no_items (Ok x) e,
-              λ ls ms. share_tree
-                  (suc n) j (closes Array ∷ ls) (item_tokens js ms) less,
-            )
+            by_place (inl less) =
+                let h = first less (subst (IsClean (suc n)) (sym e) tt) in (
+                  item h.0 no_items,
+                  many (array_with a h.1).items,
+                  item_is c a h.0 no_items (Ok h.1) h.2,
+                  (λ ls ms. h.3 (closes Array ∷ ls) (item_tokens js ms)),
+                  λ ms w. spellable_then h.0 (closes Array ∷ []) (h.4 (item_tokens js ms) w) (tt, tt),
+                )
             by_place (inr past) =
                 let m : ℕ = suc n - size j in
                 let is : suc n ≡ size j + m = omega (arith, past) in
@@ -154,14 +181,14 @@ module _ (c : Schema)
                   h.1,
                   item_is c a j h.0 (Ok x) e
                       ∙ ap (behind (size j)) h.2,
-                  λ ls ms. share_behind (suc n) m j (item_tokens h.0 ls)
-                      (item_tokens js ms) is (h.3 ls ms),
+                  (λ ls ms. share_behind (suc n) m j (item_tokens h.0 ls) (item_tokens js ms) is (h.3 ls ms)),
+                  λ ms w. words_behind (suc n) m j (item_tokens js ms) (item_tokens h.0 []) is w (h.4 ms),
                 )
 
     members_front : (o : OpenObject) (ps : Pairs) (n : ℕ) → n ≤ pairs_size ps → IsClean n (members c o ps)
         → HasMembers c o n ps
-    members_front o ps zero low clean = (no_pairs, object_value o, refl, λ ls ms. tt)
-    members_front o no_pairs (suc zero) low clean = (no_pairs, object_value o, refl, λ ls ms. (refl, tt))
+    members_front o ps zero low clean = (no_pairs, object_value o, refl, (λ ls ms. tt), λ ms w. (tt, tt))
+    members_front o no_pairs (suc zero) low clean = (no_pairs, object_value o, refl, (λ ls ms. (refl, tt)), λ ms w. (tt, tt))
     members_front o no_pairs (suc (suc n)) low clean = absurd (omega (arith, low))
     members_front o (pair t j ps) (suc zero) low clean = by_key (names_spot c o t) refl
       where
@@ -177,9 +204,9 @@ module _ (c : Schema)
             let h = ready o t spot e in (
               pair t h.0 no_pairs,
               object_value (object_with spot h.1),
-              pair_is c o t h.0 no_pairs spot
-                  (Ok h.1) e h.2,
-              λ ls ms. (refl, tt),
+              pair_is c o t h.0 no_pairs spot (Ok h.1) e h.2,
+              (λ ls ms. (refl, tt)),
+              λ ms w. (w.0, spellable_then h.0 (closes Object ∷ []) h.3 (tt, tt)),
             )
     members_front o (pair t j ps) (suc (suc n)) low clean =
         by_key (names_spot c o t) refl (λ spot less h. value_front spot j n less h)
@@ -211,21 +238,21 @@ module _ (c : Schema)
                 let h = first spot (omega (arith, late, within)) (subst (IsClean (suc n)) (sym is) late) in (
                   pair t h.0 no_pairs,
                   object_value (object_with spot h.1),
-                  pair_is c o t h.0 no_pairs spot
-                      (Ok h.1) e h.2,
-                  λ ls ms. (refl, h.3 (closes Object ∷ ls) (pair_tokens ps ms)),
+                  pair_is c o t h.0 no_pairs spot (Ok h.1) e h.2,
+                  (λ ls ms. (refl, h.3 (closes Object ∷ ls) (pair_tokens ps ms))),
+                  λ ms w. (w.0, spellable_then h.0 (closes Object ∷ []) (h.4 (pair_tokens ps ms) w.1) (tt, tt)),
                 )
             by_value (Ok x) is = by_place (cases_lt n (size j))
               where
                 by_place : ((n < size j) ⊎ (size j ≤ n)) → HasMembers c o (suc (suc n)) (pair t j ps)
-                by_place (inl less) = (
-                  pair t j no_pairs,
-                  object_value (object_with spot x),
-                  pair_is c o t j no_pairs spot
-                      (Ok x) e is,
-                  λ ls ms.
-                      (refl, share_tree (suc n) j (closes Object ∷ ls) (pair_tokens ps ms) less),
-                )
+                by_place (inl less) =
+                    let h = first spot less (subst (IsClean (suc n)) (sym is) tt) in (
+                      pair t h.0 no_pairs,
+                      object_value (object_with spot h.1),
+                      pair_is c o t h.0 no_pairs spot (Ok h.1) e h.2,
+                      (λ ls ms. (refl, h.3 (closes Object ∷ ls) (pair_tokens ps ms))),
+                      λ ms w. (w.0, spellable_then h.0 (closes Object ∷ []) (h.4 (pair_tokens ps ms) w.1) (tt, tt)),
+                    )
                 by_place (inr past) =
                     let m : ℕ = suc n - size j in
                     let sum : suc n ≡ size j + m = omega (arith, past) in
@@ -235,6 +262,8 @@ module _ (c : Schema)
                       h.1,
                       pair_is c o t j h.0 spot (Ok x) e is
                           ∙ ap (λ r. behind 1 (behind (size j) r)) h.2,
-                      λ ls ms.
-                          (refl, share_behind (suc n) m j (pair_tokens h.0 ls) (pair_tokens ps ms) sum (h.3 ls ms)),
+                      (λ ls ms.
+                          (refl, share_behind (suc n) m j (pair_tokens h.0 ls) (pair_tokens ps ms) sum (h.3 ls ms))),
+                      λ ms w.
+                          (w.0, words_behind (suc n) m j (pair_tokens ps ms) (pair_tokens h.0 []) sum w.1 (h.4 ms)),
                     )

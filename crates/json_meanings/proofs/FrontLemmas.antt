@@ -14,7 +14,7 @@ ShareFront (suc n) (u ∷ us) (v ∷ vs) = (u ≡ v) × ShareFront n us vs
 
 mutual
   -- what follows a tree follows its tokens
-  tokens_then : (j : Json) (ms : List Mark) → with_tokens j ms ≡ with_tokens j [] ++ ms
+  pub tokens_then : (j : Json) (ms : List Mark) → with_tokens j ms ≡ with_tokens j [] ++ ms
   tokens_then (literal n) ms = refl
   tokens_then (number s) ms = refl
   tokens_then (string s) ms = refl
@@ -94,7 +94,8 @@ front_taken (suc n) (u ∷ us) (v ∷ vs) h =
 front_taken (suc n) [] vs h = absurd h
 front_taken (suc n) (u ∷ us) [] h = absurd h
 
-take_past : (k n : ℕ) (us vs : List Mark) → k ≡ length us + n → take k (us ++ vs) ≡ us ++ take n vs
+-- the first marks, past those of a list
+pub take_past : (k n : ℕ) (us vs : List Mark) → k ≡ length us + n → take k (us ++ vs) ≡ us ++ take n vs
 take_past k n [] vs is = let same : k ≡ n = omega (arith, is) in ap (λ m. take m vs) same
 take_past zero n (u ∷ us) vs is = absurd (omega (arith, is))
 take_past (suc k) n (u ∷ us) vs is = ap (λ l. u ∷ l) (take_past k n us vs (omega (arith, is)))

@@ -10,6 +10,10 @@ pub mod FaultLemmas
 pub mod NumberLemmas
 -- The first tokens of a tree stay the same whatever follows it.
 pub mod FrontLemmas
+-- The brackets of tokens that are taken (`brackets_nest_within_a_limit`).
+pub mod NestingLemmas
+-- Tokens that some bytes spell, and trees that have a text.
+pub mod WordLemmas
 -- Some tree is accepted behind each key.
 pub mod ReadyLemmas
 -- The tokens before a fault begin an accepted value (`faults_are_at_the_first_token`).

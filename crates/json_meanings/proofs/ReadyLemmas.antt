@@ -1,7 +1,9 @@
 -- Some tree is accepted behind each key, and as each message: null, the least value of a kind, or an object without
 -- members.
-use Rattle.std.proofs.Common.{◌≡◌, ◌∙◌, ◌⊎◌, inl, inr, ap, subst, refl, cond, ℕ, zero, suc, Bool, true, false, List, [], codes, Some, Result, Ok, Err}
+use Rattle.std.proofs.Common.{◌≡◌, ◌∙◌, ◌⊎◌, inl, inr, sym, ap, subst, refl, cond, ℕ, zero, suc, Bool, true, false, List, [], codes, Some, Result, Ok, Err}
 use Rattle.std.specs.Prelude.{is_some, pos}
+use Rattle.std.specs.Str.{IsUtf8}
+use Rattle.std.proofs.lemmas.Str.{IsUtf8-nil}
 use Rattle.base64.proofs.OnLiterals.{base64_on_literals}
 use Rattle.message_types.specs.Types.{field_in, fields_of}
 use Rattle.message_types.specs.declared.fields.Field.{Field}
@@ -18,6 +20,7 @@ use Rattle.schema.specs.Soundness.{IsSound}
 use Rattle.schema.specs.declared.key.Key.{Key}
 use Rattle.schema.specs.declared.value.Item.TheOpen.{Number, Truth, Text, Bytes, Message}
 use Rattle.schema.specs.declared.value.Item.{Item}
+use Rattle.json_events.specs.JsonNumbers.{IsNumber}
 use Rattle.json_events.specs.JsonTree.{Json, Mark, literal, number, string, object, no_pairs, digits, text, name}
 use Rattle.json_events.specs.declared.state.Name.TheVariants as names
 use Rattle.json_meanings.specs.FaultPlaces.{at_once, behind, onward}
@@ -30,37 +33,43 @@ use Rattle.json_meanings.specs.SpotTables.{as_message, as_single, below, entry_a
 use Rattle.json_meanings.specs.declared.fault.FieldKind.{FieldKind}
 use Rattle.json_meanings.specs.declared.fault.FieldKind.TheVariants.{KeyTwice, TooDeep}
 use Rattle.json_meanings.proofs.FieldLemmas.{wrapper_field}
+use Rattle.json_meanings.proofs.WordLemmas.{IsSpellableTree, zero_is_number}
 
--- some tree is accepted at a spot
+-- some tree that has a text is accepted at a spot
 abbrev pub IsReady : Schema → Spot → Type 0
-IsReady c spot = (j : Json) × (x : Filled) × (value c spot j ≡ Ok x)
+IsReady c spot = (j : Json) × (x : Filled) × (value c spot j ≡ Ok x) × IsSpellableTree j
 
 -- a token that is a least value
 data LeastToken : Type 0 where
-  number_token : List ℕ → LeastToken
-  text_token : List ℕ → LeastToken
+  number_token : (t : List ℕ) → IsNumber t → LeastToken
+  text_token : (t : List ℕ) → IsUtf8 t → LeastToken
   true_token : LeastToken
 
 abbrev tree_of : LeastToken → Json
-tree_of (number_token t) = number t
-tree_of (text_token t) = string t
+tree_of (number_token t is) = number t
+tree_of (text_token t is) = string t
 tree_of true_token = literal names.True
 
 abbrev mark_of : LeastToken → Mark
-mark_of (number_token t) = digits t
-mark_of (text_token t) = text t
+mark_of (number_token t is) = digits t
+mark_of (text_token t is) = text t
 mark_of true_token = name names.True
 
 value_takes : (c : Schema) (spot : Spot) (p : LeastToken) → value c spot (tree_of p)
     ≡ at_once (fills c spot (mark_of p))
-value_takes c spot (number_token t) = refl
-value_takes c spot (text_token t) = refl
+value_takes c spot (number_token t is) = refl
+value_takes c spot (text_token t is) = refl
 value_takes c spot true_token = refl
+
+least_spellable : (p : LeastToken) → IsSpellableTree (tree_of p)
+least_spellable (number_token t is) = (is, tt)
+least_spellable (text_token t is) = (is, tt)
+least_spellable true_token = (tt, tt)
 
 inner_takes : (c : Schema) (k : ℕ) (kind : Kind) (p : LeastToken)
     → inner_as c k kind (mark_of p) ≡ as_single (kind_as c k kind (mark_of p))
-inner_takes c k kind (number_token t) = refl
-inner_takes c k kind (text_token t) = refl
+inner_takes c k kind (number_token t is) = refl
+inner_takes c k kind (text_token t is) = refl
 inner_takes c k kind true_token = refl
 
 module _ (c : Schema) where
@@ -70,20 +79,20 @@ module _ (c : Schema) where
   -- each scalar kind has a value
   least_scalar : (s : Scalar) → HasScalar s
   unfolding base64_on_literals
-  least_scalar Int32 = (number_token (codes "0"), Number (pos 0), refl)
-  least_scalar Int64 = (number_token (codes "0"), Number (pos 0), refl)
-  least_scalar Uint32 = (number_token (codes "0"), Number (pos 0), refl)
-  least_scalar Uint64 = (number_token (codes "0"), Number (pos 0), refl)
-  least_scalar Sint32 = (number_token (codes "0"), Number (pos 0), refl)
-  least_scalar Sint64 = (number_token (codes "0"), Number (pos 0), refl)
-  least_scalar Fixed32 = (number_token (codes "0"), Number (pos 0), refl)
-  least_scalar Fixed64 = (number_token (codes "0"), Number (pos 0), refl)
-  least_scalar Sfixed32 = (number_token (codes "0"), Number (pos 0), refl)
-  least_scalar Sfixed64 = (number_token (codes "0"), Number (pos 0), refl)
+  least_scalar Int32 = (number_token (codes "0") zero_is_number, Number (pos 0), refl)
+  least_scalar Int64 = (number_token (codes "0") zero_is_number, Number (pos 0), refl)
+  least_scalar Uint32 = (number_token (codes "0") zero_is_number, Number (pos 0), refl)
+  least_scalar Uint64 = (number_token (codes "0") zero_is_number, Number (pos 0), refl)
+  least_scalar Sint32 = (number_token (codes "0") zero_is_number, Number (pos 0), refl)
+  least_scalar Sint64 = (number_token (codes "0") zero_is_number, Number (pos 0), refl)
+  least_scalar Fixed32 = (number_token (codes "0") zero_is_number, Number (pos 0), refl)
+  least_scalar Fixed64 = (number_token (codes "0") zero_is_number, Number (pos 0), refl)
+  least_scalar Sfixed32 = (number_token (codes "0") zero_is_number, Number (pos 0), refl)
+  least_scalar Sfixed64 = (number_token (codes "0") zero_is_number, Number (pos 0), refl)
   least_scalar BoolOf = (true_token, Truth true, refl)
-  least_scalar TextOf = (text_token [], Text [], refl)
-  least_scalar BytesOf = (text_token [], Bytes [], refl)
-  least_scalar (Enumeration id) = (number_token (codes "0"), Number (pos 0), refl)
+  least_scalar TextOf = (text_token [] IsUtf8-nil, Text [], refl)
+  least_scalar BytesOf = (text_token [] IsUtf8-nil, Bytes [], refl)
+  least_scalar (Enumeration id) = (number_token (codes "0") zero_is_number, Number (pos 0), refl)
 
 spot_same : (a b : Spot) → ◌≡◌ {A = Result Spot FieldKind} (Ok a) (Ok b) → a ≡ b
 spot_same a b e = cc
@@ -102,12 +111,12 @@ module _ (c : Schema) (sound : IsSound c.types) (texts : HasTexts c) where
           → ((m : Mark) → message_as c (suc k) known (fields_of c.types id) m ≡ as_message (known_as c known m))
           → HasValue (suc k) (MessageOf id)
       by_text known e is same =
-          let t = texts known is in
+          let t = texts id (subst IsTextType (sym e) is) in
           inl (
-            text_token t.0,
+            text_token t.0 t.2,
             Message t.1,
             ap (λ w. message_as c (suc k) w (fields_of c.types id) (text t.0)) e
-                ∙ (same (text t.0) ∙ ap as_message t.2),
+                ∙ (same (text t.0) ∙ ap as_message (ap (λ w. c.known w t.0) (sym e) ∙ t.3)),
           )
 
       wrapped_is : (f : Field) (r : Result ItemLayer FieldKind) (i : ItemLayer) → r ≡ Ok i
@@ -138,10 +147,15 @@ module _ (c : Schema) (sound : IsSound c.types) (texts : HasTexts c) where
   whole_ready k id = by_value (message_value k id)
     where
       by_value : HasValue (suc k) (MessageOf id) → IsReady c (whole (suc k) id)
-      by_value (inl h) =
-          (tree_of h.0, single h.1, value_takes c (whole (suc k) id) h.0 ∙ ap (λ r. at_once (as_single r)) h.2)
+      by_value (inl h) = (
+        tree_of h.0,
+        single h.1,
+        value_takes c (whole (suc k) id) h.0 ∙ ap (λ r. at_once (as_single r)) h.2,
+        least_spellable h.0,
+      )
       by_value (inr h) =
-          (object no_pairs, object_value h.0, ap (λ r. onward (at_once r) (λ o. behind 1 (members c o no_pairs))) h.1)
+          let taken = ap (λ r. onward (at_once r) (λ o. behind 1 (members c o no_pairs))) h.1 in
+          (object no_pairs, object_value h.0, taken, (tt, (tt, tt)))
 
   -- the value of an entry that has room
   kind_value : (k : ℕ) (kind : Kind) → has_room k kind ≡ true → HasValue (below k) kind
@@ -161,9 +175,11 @@ module _ (c : Schema) (sound : IsSound c.types) (texts : HasTexts c) where
         single h.1,
         value_takes c (entry k s kind es key) h.0
             ∙ ap at_once (inner_takes c (below k) kind h.0 ∙ ap as_single h.2),
+        least_spellable h.0,
       )
       by_value (inr h) =
-          (object no_pairs, object_value h.0, ap (λ r. onward (at_once r) (λ o. behind 1 (members c o no_pairs))) h.1)
+          let taken = ap (λ r. onward (at_once r) (λ o. behind 1 (members c o no_pairs))) h.1 in
+          (object no_pairs, object_value h.0, taken, (tt, (tt, tt)))
 
   -- a key of an entry leaves room for its value
   room_of : (k : ℕ) (kind : Kind) (es : List (Key × Item)) (r : Result ItemLayer FieldKind) (key : Key)
@@ -184,7 +200,7 @@ module _ (c : Schema) (sound : IsSound c.types) (texts : HasTexts c) where
       by_key : (r : Result FieldForm FieldKind) → member_at k id m r ≡ Ok spot → IsReady c spot
       by_key (Err e) q = absurd cc
       by_key (Ok f) q =
-          subst (IsReady c) (spot_same (member k id m f) spot q) (literal names.Null, unset, refl)
+          subst (IsReady c) (spot_same (member k id m f) spot q) (literal names.Null, unset, refl, (tt, tt))
   named_ready (of_map k s kind es) t spot is = by_key (text_as c.types s t) is
     where
       by_key : (r : Result ItemLayer FieldKind) → entry_at k s kind es (unless_there k kind es r) ≡ Ok spot

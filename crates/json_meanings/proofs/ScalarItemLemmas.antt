@@ -20,12 +20,7 @@ use Rattle.json_meanings.specs.ScalarLaws.{NumberLawsHold, RangeLawsHold}
 use Rattle.json_meanings.specs.SpelledBytes.{spelled_bytes}
 use Rattle.json_meanings.specs.declared.fault.FieldKind.{FieldKind}
 use Rattle.json_meanings.specs.declared.fault.FieldKind.TheVariants.{BadEnum, BadText}
-
--- the text of a mark is UTF-8
-abbrev pub IsUtf8Mark : Mark → Type 0
-IsUtf8Mark (text t) = IsUtf8 t
-IsUtf8Mark (key t) = IsUtf8 t
-IsUtf8Mark _ = Unit {0}
+use Rattle.json_meanings.specs.ValidLaws.{MarkIsUtf8}
 
 -- what is read is a value of the kind
 abbrev pub IsReadOf : Scalar → Result ItemLayer FieldKind → Type 0
@@ -141,7 +136,7 @@ module _ (numbers : (s : Scalar) (t : List ℕ) → IsNumberKind s → NumberLaw
   name_read (Enumeration id) n = tt
 
   -- a token without brackets as a scalar
-  pub scalar_read : (s : Scalar) (m : Mark) → IsUtf8Mark m → IsReadOf s (scalar_as types s m)
+  pub scalar_read : (s : Scalar) (m : Mark) → MarkIsUtf8 m → IsReadOf s (scalar_as types s m)
   scalar_read s (name n) utf8 = name_read s n
   scalar_read s (digits t) utf8 = digits_read s t
   scalar_read s (text t) utf8 = string_read s t utf8

@@ -30,12 +30,12 @@ use Rattle.json_meanings.specs.PartialMessages.{FieldForm, as_key, empty_message
 use Rattle.json_meanings.specs.ReadingSpots.{Filled, OpenArray, OpenObject, Spot, element, entry, many, member, of_map, of_message, pairs, part, single, unset, whole}
 use Rattle.json_meanings.specs.ScalarLaws.{NumberLawsHold, RangeLawsHold}
 use Rattle.json_meanings.specs.SpotTables.{array_by, below, entry_at, fills, known_of, member_at, message_by, names_spot, object_by, object_in, opens_array, opens_object}
-use Rattle.json_meanings.specs.ValidLaws.{GivesValid}
+use Rattle.json_meanings.specs.ValidLaws.{GivesValid, MarkIsUtf8}
 use Rattle.json_meanings.specs.declared.fault.FieldKind.{FieldKind}
 use Rattle.json_meanings.specs.declared.fault.FieldKind.TheVariants.{KeyTwice, TooDeep}
 use Rattle.json_meanings.proofs.FieldLemmas.{IsFieldOf, named_field}
 use Rattle.json_meanings.proofs.FilledLemmas.{AreEntries, AreItems, FillsField, IsOneShape, IsValidSoFar, empty_valid, put_filled}
-use Rattle.json_meanings.proofs.ScalarItemLemmas.{IsReadOf, IsUtf8Mark, key_read, text_read}
+use Rattle.json_meanings.proofs.ScalarItemLemmas.{IsReadOf, key_read, text_read}
 use Rattle.json_meanings.proofs.TokenValidLemmas.{FillsFreely, IsOne, field_read, free_of, inner_read, one_fills, one_read}
 
 -- ---- entries with one more
@@ -227,7 +227,7 @@ module _ (numbers : (s : Scalar) (t : List ℕ) → IsNumberKind s → NumberLaw
     (ranges : (s : Scalar) (z : ℤ) → IsNumberKind s → RangeLawsHold s z) (c : Schema) (sound : IsSound c.types)
     (valid : GivesValid c) where
   -- a token without brackets
-  pub fills_spot : (spot : Spot) (m : Mark) (x : Filled) → IsUtf8Mark m → fills c spot m ≡ Ok x → FillsSpot c spot x
+  pub fills_spot : (spot : Spot) (m : Mark) (x : Filled) → MarkIsUtf8 m → fills c spot m ≡ Ok x → FillsSpot c spot x
   fills_spot (whole k id) m x utf8 e = one_read numbers ranges c sound valid k (MessageOf id) m x utf8 e
   fills_spot (part k f) m x utf8 e = (field_read numbers ranges c sound valid k empty_message f m x utf8 e).0
   fills_spot (member k id p f) m x utf8 e = field_read numbers ranges c sound valid k p f m x utf8 e

@@ -24,12 +24,12 @@ use Rattle.json_meanings.specs.PartialMessages.{FieldForm, PartialMessage, empty
 use Rattle.json_meanings.specs.ReadingSpots.{Filled, many, pairs, single, unset}
 use Rattle.json_meanings.specs.ScalarLaws.{NumberLawsHold, RangeLawsHold}
 use Rattle.json_meanings.specs.SpotTables.{as_message, as_single, field_as, in_levels, inner_as, kind_as, known_as, known_of, message_as, scalar_in, shape_as, unless_taken, wrapped, wrapper_as}
-use Rattle.json_meanings.specs.ValidLaws.{GivesValid}
+use Rattle.json_meanings.specs.ValidLaws.{GivesValid, MarkIsUtf8}
 use Rattle.json_meanings.specs.declared.fault.FieldKind.{FieldKind}
 use Rattle.json_meanings.specs.declared.fault.FieldKind.TheVariants.{UnknownKey, KeyTwice, OneofTwice, WrongShape, BadNumber, OutOfRange, BadEnum, BadText, NullInside, TooDeep}
 use Rattle.json_meanings.proofs.FieldLemmas.{IsFieldOf, numbered_field, wrapper_field}
 use Rattle.json_meanings.proofs.FilledLemmas.{FillsField, IsOneShape, empty_valid, put_filled, valid_at_end}
-use Rattle.json_meanings.proofs.ScalarItemLemmas.{IsReadOf, IsUtf8Mark, scalar_read}
+use Rattle.json_meanings.proofs.ScalarItemLemmas.{IsReadOf, scalar_read}
 
 -- past the last level there is no message
 deep_fault : (e : FieldKind) → (k : FieldKind) × (in_levels {A = Value} zero (Err e) ≡ Err k)
@@ -95,7 +95,7 @@ one_fills c k f (pairs es) shape h = absurd h
 module _ (numbers : (s : Scalar) (t : List ℕ) → IsNumberKind s → NumberLawsHold s t)
     (ranges : (s : Scalar) (z : ℤ) → IsNumberKind s → RangeLawsHold s z) (c : Schema) (sound : IsSound c.types)
     (valid : GivesValid c) where
-  scalar_is : (s : Scalar) (m : Mark) (i : ItemLayer) → IsUtf8Mark m → scalar_as c.types s m ≡ Ok i → IsScalarItem s i
+  scalar_is : (s : Scalar) (m : Mark) (i : ItemLayer) → MarkIsUtf8 m → scalar_as c.types s m ≡ Ok i → IsScalarItem s i
   scalar_is s m i utf8 e = subst (IsReadOf s) e (scalar_read numbers ranges c.types s m utf8)
 
   -- the message of a wrapper's value
@@ -139,7 +139,7 @@ module _ (numbers : (s : Scalar) (t : List ℕ) → IsNumberKind s → NumberLaw
   known_read known (key t) v e = absurd (no_value WrongShape v e)
 
   -- a message that is a token without brackets
-  message_read : (k : ℕ) (id : TypeId) (m : Mark) (i : ItemLayer) → IsUtf8Mark m → kind_as c k (MessageOf id) m ≡ Ok i
+  message_read : (k : ℕ) (id : TypeId) (m : Mark) (i : ItemLayer) → MarkIsUtf8 m → kind_as c k (MessageOf id) m ≡ Ok i
       → IsItem (valid_within k c.types) (MessageOf id) i
   message_read k id m i utf8 is = by_known (known_of c.types id) refl
     where
@@ -173,13 +173,13 @@ module _ (numbers : (s : Scalar) (t : List ℕ) → IsNumberKind s → NumberLaw
           (ap (λ o. wrapper_as c o m) (sym w.1) ∙ q)) i (as_known Wrapper e)
 
   -- a value of a kind
-  kind_read : (k : ℕ) (kind : Kind) (m : Mark) (i : ItemLayer) → IsUtf8Mark m → kind_as c k kind m ≡ Ok i
+  kind_read : (k : ℕ) (kind : Kind) (m : Mark) (i : ItemLayer) → MarkIsUtf8 m → kind_as c k kind m ≡ Ok i
       → IsItem (valid_within k c.types) kind i
   kind_read k (OneOf s) m i utf8 e = scalar_is s m i utf8 e
   kind_read k (MessageOf id) m i utf8 e = message_read k id m i utf8 e
 
   -- one item of a kind
-  pub one_read : (k : ℕ) (kind : Kind) (m : Mark) (x : Filled) → IsUtf8Mark m → as_single (kind_as c k kind m) ≡ Ok x
+  pub one_read : (k : ℕ) (kind : Kind) (m : Mark) (x : Filled) → MarkIsUtf8 m → as_single (kind_as c k kind m) ≡ Ok x
       → IsOne c k kind x
   one_read k kind m x utf8 e = by_item (kind_as c k kind m) refl e
     where
@@ -201,7 +201,7 @@ module _ (numbers : (s : Scalar) (t : List ℕ) → IsNumberKind s → NumberLaw
   inner_read k kind colon x e = e
   inner_read k kind (key t) x e = e
 
-  shape_read : (k : ℕ) (f : FieldForm) (shape : Shape) → f.shape ≡ shape → (m : Mark) (x : Filled) → IsUtf8Mark m
+  shape_read : (k : ℕ) (f : FieldForm) (shape : Shape) → f.shape ≡ shape → (m : Mark) (x : Filled) → MarkIsUtf8 m
       → shape_as c k f shape m ≡ Ok x → FillsField c.types k f x
   shape_read k f Single is m x utf8 e = one_fills c k f x (subst IsOneShape (sym is) tt) (one_read k f.kind m x utf8 e)
   shape_read k f (Member n) is m x utf8 e =
@@ -209,14 +209,14 @@ module _ (numbers : (s : Scalar) (t : List ℕ) → IsNumberKind s → NumberLaw
   shape_read k f ManyOf is m x utf8 e = absurd (cc e)
   shape_read k f (MapOf s) is m x utf8 e = absurd (cc e)
 
-  given_read : (k : ℕ) (p : PartialMessage) (f : FieldForm) (m : Mark) (x : Filled) → IsUtf8Mark m
+  given_read : (k : ℕ) (p : PartialMessage) (f : FieldForm) (m : Mark) (x : Filled) → MarkIsUtf8 m
       → unless_taken p f (shape_as c k f f.shape m) ≡ Ok x → FillsFreely c k p f x
   given_read k p f m x utf8 e =
       let h = free_of p f (shape_as c k f f.shape m) x e in
       (shape_read k f f.shape refl m x utf8 h.1, λ some. h.0)
 
   -- a token that is a field's value
-  pub field_read : (k : ℕ) (p : PartialMessage) (f : FieldForm) (m : Mark) (x : Filled) → IsUtf8Mark m
+  pub field_read : (k : ℕ) (p : PartialMessage) (f : FieldForm) (m : Mark) (x : Filled) → MarkIsUtf8 m
       → field_as c k p f m ≡ Ok x → FillsFreely c k p f x
   field_read k p f (name names.Null) x utf8 e =
       subst (FillsFreely c k p f) (unset_is x e) (tt, λ some. absurd (some refl))

@@ -17,7 +17,7 @@ use Rattle.message_types.specs.declared.messages.MessageType.{MessageType}
 use Rattle.message_types.specs.declared.messages.TypeId.{TypeId}
 use Rattle.message_types.specs.declared.messages.Types.{Types}
 use Rattle.schema.specs.Layers.{ItemLayer}
-use Rattle.schema.specs.declared.value.Item.TheOpen.{One}
+use Rattle.schema.specs.declared.value.Item.TheOpen.{One, Message}
 use Rattle.schema.specs.declared.value.Item.{roll-Item}
 use Rattle.schema.specs.declared.value.Slot.{roll-Slot, Slot}
 use Rattle.schema.specs.declared.value.Value.{Value}
@@ -74,6 +74,7 @@ book_fields =
     ∷ field_as_named (codes "signed") 15 (OneOf Sint32) (MapOf BoolOf) Implicit
     ∷ field_as_named (codes "volumes") 16 (MessageOf (type_at 0)) ManyOf Implicit
     ∷ field_as_named (codes "parts") 17 (MessageOf (type_at 0)) (MapOf Uint64) Implicit
+    ∷ field_as_named (codes "shelf") 18 (OneOf TextOf) (Member 1) Explicit
     ∷ []
 
 -- books, and their kinds
@@ -166,7 +167,17 @@ abbrev pub in_sequels : ℕ → Json → Json
 in_sequels zero j = j
 in_sequels (suc n) j = one_pair (codes "sequel") (in_sequels n j)
 
+-- a message inside so many books, each the sequel of the one around it
+abbrev pub book_with_sequels : ℕ → Value → Value
+book_with_sequels zero v = v
+book_with_sequels (suc n) v = only 14 (Message (book_with_sequels n v))
+
 -- a value inside so many priced things
 abbrev pub in_things : ℕ → Json → Json
 in_things zero j = j
 in_things (suc n) j = one_pair (codes "within") (in_things n j)
+
+-- a message inside so many priced things
+abbrev pub thing_around : ℕ → Value → Value
+thing_around zero v = v
+thing_around (suc n) v = only 7 (Message (thing_around n v))

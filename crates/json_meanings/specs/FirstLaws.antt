@@ -1,13 +1,17 @@
 -- The token with the first fault is the first such that the tokens up to it begin no accepted value.
-use Rattle.std.specs.Prelude.{◌≡◌, ◌+◌, ℕ, List, take, Option, Ok}
+use Rattle.std.specs.Prelude.{◌≡◌, ◌+◌, ◌++◌, ℕ, List, take, Option, Ok}
+use Rattle.std.specs.Str.{IsUtf8}
 use Rattle.message_types.specs.declared.messages.Known.{Known}
 use Rattle.message_types.specs.declared.messages.Known.TheVariants.{Plain, Wrapper}
 use Rattle.message_types.specs.declared.messages.TypeId.{TypeId}
 use Rattle.schema.specs.declared.value.Value.{Value}
-use Rattle.json_events.specs.JsonTree.{Mark}
+use Rattle.json_events.specs.JsonText.{IsTextOf}
+use Rattle.json_events.specs.JsonTree.{Json, Mark}
 use Rattle.json_meanings.specs.FaultPlaces.{Fault}
-use Rattle.json_meanings.specs.FieldFaults.{BeginsValue}
+use Rattle.json_meanings.specs.FieldFaults.{BeginsValue, tree_tokens}
+use Rattle.json_meanings.specs.JsonDenotes.{reading}
 use Rattle.json_meanings.specs.JsonScalars.{Schema}
+use Rattle.json_meanings.specs.SpotTables.{known_of}
 
 -- the well-known type is written as a text
 abbrev pub IsTextType : Known → Type 0
@@ -15,9 +19,17 @@ IsTextType Plain = ⊥
 IsTextType Wrapper = ⊥
 IsTextType _ = Unit {0}
 
--- each well-known type that is written as a text has one that is lawful
+-- each type that is written as a text has a lawful one, in UTF-8
 abbrev pub HasTexts : Schema → Type 0
-HasTexts c = (known : Known) → IsTextType known → (t : List ℕ) × (v : Value) × (c.known known t ≡ Ok v)
+HasTexts c =
+    (id : TypeId) → IsTextType (known_of c.types id)
+    → (t : List ℕ) × (v : Value) × IsUtf8 t × (c.known (known_of c.types id) t ≡ Ok v)
+
+-- the tokens begin those of a text whose tree means a value
+abbrev pub BeginsValueText : Schema → TypeId → Option ℕ → List Mark → Type 0
+BeginsValueText c id part ts =
+    (j : Json) × (more : List Mark) × (v : Value) × (bytes : List ℕ) × (tree_tokens j ≡ ts ++ more)
+    × (reading c id part j ≡ Ok v) × IsTextOf j bytes
 
 -- the tokens before the one with the fault begin an accepted value, and those up to it begin none
 pub record IsAtFirstToken (c : Schema) (id : TypeId) (n : Option ℕ) (ts : List Mark) (f : Fault) : Type 0 where

@@ -79,7 +79,7 @@ alone _ x = message_in (item_by x)
 abbrev pub read_at : Schema → Spot → Json → Result Value Fault
 read_at c spot j = onward (value c spot j) (λ x. Ok (alone spot x))
 
--- the spot of one field, where there is such a field
+-- the spot of one field; where there is no such field the whole message is read
 abbrev pub part_spot : Option Field → TypeId → Spot
 part_spot None id = whole 100 id
 part_spot (Some f) id = part 99 (form_of f)

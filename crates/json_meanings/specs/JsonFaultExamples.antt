@@ -88,6 +88,8 @@ pub record FaultOrdersHold : Type 0 where
   pub shape_before_depth : reading books book None (in_sequels 100 (literal names.True)) ≡ Err (200, WrongShape)
   pub key_before_depth : reading books book None
       (in_sequels 98 (one_pair (codes "parts") (one_pair (codes "a") (object no_pairs)))) ≡ Err (199, BadNumber)
+  pub null_before_depth : reading books book None
+      (in_sequels 99 (one_pair (codes "volumes") (array (item (literal names.Null) no_items)))) ≡ Err (201, NullInside)
   pub first_of_two : reading books book None
       (two_pairs (codes "kind") (number (codes "1.5")) (codes "zz") (number (codes "1"))) ≡ Err (2, BadNumber)
 

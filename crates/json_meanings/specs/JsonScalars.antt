@@ -1,6 +1,6 @@
 -- What a JSON value without brackets means as a scalar, or which fault it has (the ProtoJSON guide, "Representation of
 -- each type").
-use Rattle.std.specs.Prelude.{◌^◌, ◌-◌, ℕ, ℤ, pos, negsuc, true, false, List, codes, Option, Some, None, Result, Ok, Err, if◌then◌else◌}
+use Rattle.std.specs.Prelude.{◌^◌, ◌-◌, ℕ, ℤ, pos, negsuc, Bool, true, false, List, codes, Option, Some, None, Result, Ok, Err, if◌then◌else◌}
 use Rattle.std.specs.Str.{bytes_eq}
 use Rattle.std.specs.Ordering.{int_cmp, is_lt}
 use Rattle.message_types.specs.declared.fields.Scalar.{Scalar}
@@ -80,6 +80,10 @@ enum_as None s t = if are_parts (cut_number t) then number_as s t else Err BadEn
 abbrev pub bytes_as : Option (List ℕ) → Result ItemLayer FieldKind
 bytes_as (Some b) = Ok (Bytes b)
 bytes_as None = Err BadText
+
+-- the text of a truth value
+abbrev pub truth_text : Bool → List ℕ
+truth_text b = if b then codes "true" else codes "false"
 
 -- a text as a truth value
 abbrev pub truth_as : List ℕ → Result ItemLayer FieldKind

@@ -1,6 +1,5 @@
 -- Worked examples of well-known types (the ProtoJSON guide): wrappers, and types that are written as texts, of which
--- `t`
--- stands for a lawful one here.
+-- `t` stands for a lawful one here.
 use Rattle.std.specs.Prelude.{◌≡◌, pos, [], ◌∷◌, codes, Some, None, Ok, Err}
 use Rattle.schema.specs.declared.key.Key.TheVariants.{Number as NumberKey}
 use Rattle.schema.specs.declared.value.Item.TheOpen.{Number, Message, Many, Pairs as Entries}
@@ -8,7 +7,7 @@ use Rattle.schema.specs.declared.value.Item.{roll-Item}
 use Rattle.schema.specs.declared.value.Slot.{roll-Slot}
 use Rattle.json_events.specs.JsonTree.{literal, number, string, array, object, no_items, item, no_pairs}
 use Rattle.json_events.specs.declared.state.Name.TheVariants as names
-use Rattle.json_meanings.specs.ExampleTypes.{in_things, is_read, one_pair, only, priced, priced_thing, two_pairs, type_at}
+use Rattle.json_meanings.specs.ExampleTypes.{in_things, is_read, one_pair, only, priced, priced_thing, thing_around, two_pairs, type_at}
 use Rattle.json_meanings.specs.JsonDenotes.{reading}
 use Rattle.json_meanings.specs.declared.fault.FieldKind.TheVariants.{BadNumber, BadText, KeyTwice, NullInside, OutOfRange, TooDeep, WrongShape}
 
@@ -55,3 +54,7 @@ pub record TextTypeMeaningsHold : Type 0 where
       (in_things 99 (one_pair (codes "made") (string (codes "u")))) ≡ Err (200, TooDeep)
   pub shape_before_depth : reading priced priced_thing None
       (in_things 99 (one_pair (codes "made") (number (codes "1")))) ≡ Err (200, WrongShape)
+  pub bracket_before_depth : reading priced priced_thing None
+      (in_things 99 (one_pair (codes "made") (object no_pairs))) ≡ Err (200, WrongShape)
+  pub time_at_level_100 : reading priced priced_thing None (in_things 98 (one_pair (codes "made") (string (codes "t"))))
+      ≡ Ok (thing_around 98 (only 2 (Message (record { fields = [] }))))

@@ -23,6 +23,7 @@ pub mod ReadingTurns
 pub mod ReadingLaws
 pub mod ScalarLaws
 pub mod FirstLaws
+pub mod TokenNesting
 pub mod ValidLaws
 pub mod ExampleTypes
 pub mod MeaningExamples

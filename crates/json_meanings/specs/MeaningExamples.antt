@@ -7,7 +7,7 @@ use Rattle.schema.specs.declared.value.Item.{roll-Item}
 use Rattle.schema.specs.declared.value.Slot.{roll-Slot}
 use Rattle.json_events.specs.JsonTree.{literal, number, string, array, object, no_items, item, no_pairs, pair}
 use Rattle.json_events.specs.declared.state.Name.TheVariants as names
-use Rattle.json_meanings.specs.ExampleTypes.{book, books, is_read, one_pair, one_slot, only, two_pairs}
+use Rattle.json_meanings.specs.ExampleTypes.{book, book_with_sequels, books, in_sequels, is_read, one_pair, one_slot, only, two_pairs}
 use Rattle.json_meanings.specs.JsonDenotes.{reading}
 
 -- single scalars
@@ -58,6 +58,11 @@ pub record PresenceMeaningsHold : Type 0 where
       (two_pairs (codes "person") (string []) (codes "card") (literal names.Null)) ≡ Ok (only 10 (Text []))
   pub first_member_is_null : reading books book None
       (two_pairs (codes "card") (literal names.Null) (codes "person") (string [])) ≡ Ok (only 10 (Text []))
+  pub two_oneofs : reading books book None
+      (two_pairs (codes "person") (string (codes "a")) (codes "shelf") (string (codes "b")))
+      ≡ is_read ((10, one_slot (Text (codes "a"))) ∷ (18, one_slot (Text (codes "b"))) ∷ [])
+  pub null_map_and_message : reading books book None
+      (two_pairs (codes "stock") (literal names.Null) (codes "sequel") (literal names.Null)) ≡ is_read []
   pub part_is_null : reading books book (Some 3) (literal names.Null) ≡ is_read []
   pub empty_list : reading books book (Some 4) (array no_items) ≡ is_read []
   pub empty_map : reading books book (Some 9) (object no_pairs) ≡ is_read []
@@ -96,3 +101,34 @@ pub record ShapeMeaningsHold : Type 0 where
             (Entries (record { entries = (NumberKey (pos 10), roll-Item (Message (record { fields = [] }))) ∷ [] })),
       ) ∷
       [])
+
+-- what stands at the last of the 100 levels
+pub record DepthMeaningsHold : Type 0 where
+  pub entry : reading books book None
+      (in_sequels 98 (one_pair (codes "stock") (one_pair (codes "a") (number (codes "1")))))
+      ≡ Ok
+      (book_with_sequels 98 (record {
+        fields = (
+          9,
+          roll-Slot
+              (Entries (record { entries = (TextKey (codes "a"), roll-Item (Number (pos 1))) ∷ [] })),
+        ) ∷ [];
+      }))
+  pub entry_of_messages : reading books book None
+      (in_sequels 97 (one_pair (codes "parts") (one_pair (codes "1") (object no_pairs))))
+      ≡ Ok
+      (book_with_sequels 97 (record {
+        fields = (
+          17,
+          roll-Slot
+              (Entries (record { entries = (NumberKey (pos 1), roll-Item (Message (record { fields = [] }))) ∷ [] })),
+        ) ∷ [];
+      }))
+  pub item_of_messages : reading books book None
+      (in_sequels 98 (one_pair (codes "volumes") (array (item (object no_pairs) no_items))))
+      ≡ Ok
+      (book_with_sequels 98 (record {
+        fields = (16, roll-Slot (Many (roll-Item (Message (record { fields = [] })) ∷ []))) ∷ [];
+      }))
+  pub message : reading books book None (in_sequels 99 (object no_pairs))
+      ≡ Ok (book_with_sequels 99 (record { fields = [] }))

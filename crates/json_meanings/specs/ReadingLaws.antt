@@ -26,6 +26,8 @@ pub record ReadingLawsHold (c : Schema) (id : TypeId) (n : Option ℕ) : Type 0 
   pub fault_stays :
       (ts more : List Mark) (f : Fault) (j : Json)
       → IsFirstFault c id n ts f → tree_tokens j ≡ ts ++ more → reading c id n j ≡ Err f
+  -- tokens have at most one first fault
+  pub one_fault : (ts : List Mark) (f g : Fault) → IsFirstFault c id n ts f → IsFirstFault c id n ts g → f ≡ g
   -- tokens with a fault begin no accepted value
   pub begins_none : (ts : List Mark) (f : Fault) → IsFirstFault c id n ts f → BeginsValue c id n ts → ⊥
   -- tokens that have been taken have no fault

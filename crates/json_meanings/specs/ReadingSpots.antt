@@ -15,8 +15,7 @@ pub record OpenArray : Type 0 where
   pub items : List Item
 
 -- an object that is open, with how many levels are left for what is inside: a message of a type, or the entries of a
--- map
--- with keys and values of these kinds
+-- map with keys and values of these kinds
 pub data OpenObject : Type 0 where
   of_message : ℕ → TypeId → PartialMessage → OpenObject
   of_map : ℕ → Scalar → Kind → List (Key × Item) → OpenObject

@@ -1,8 +1,6 @@
 -- What one token does where a value or a key is wanted (the ProtoJSON guide), by the kind and the shape of the field.
--- At
--- one token of a value the order of faults is NullInside, OneofTwice, WrongShape, TooDeep, and then the value's own; at
--- a
--- key it is UnknownKey, the key's own, TooDeep, KeyTwice.
+-- At one token of a value the order of faults is NullInside, OneofTwice, WrongShape, TooDeep, and then the value's own;
+-- at a key it is UnknownKey, the key's own, TooDeep, KeyTwice.
 use Rattle.std.specs.Prelude.{ℕ, zero, suc, List, [], Option, Some, None, Result, Ok, Err, if◌then◌else◌, slice_get}
 use Rattle.message_types.specs.Types.{field_in, fields_of}
 use Rattle.message_types.specs.declared.fields.Field.{Field}

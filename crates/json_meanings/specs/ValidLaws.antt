@@ -4,7 +4,7 @@ use Rattle.std.specs.Str.{IsUtf8}
 use Rattle.message_types.specs.declared.messages.TypeId.{TypeId}
 use Rattle.schema.specs.Validity.{valid_within}
 use Rattle.schema.specs.declared.value.Value.{Value}
-use Rattle.json_events.specs.JsonTree.{Json, Items, Pairs, literal, number, string, array, object, no_items, item, no_pairs, pair}
+use Rattle.json_events.specs.JsonTree.{Json, Items, Pairs, Mark, literal, number, string, array, object, no_items, item, no_pairs, pair, key, text}
 use Rattle.json_meanings.specs.FirstLaws.{IsTextType}
 use Rattle.json_meanings.specs.JsonScalars.{Schema}
 use Rattle.json_meanings.specs.SpotTables.{known_of}
@@ -27,6 +27,12 @@ abbrev mutual
   pub PairsHaveUtf8 : Pairs → Type 0
   PairsHaveUtf8 no_pairs = Unit {0}
   PairsHaveUtf8 (pair t j ps) = IsUtf8 t × HasUtf8 j × PairsHaveUtf8 ps
+
+-- the text of a token, if it has one, is UTF-8
+abbrev pub MarkIsUtf8 : Mark → Type 0
+MarkIsUtf8 (text t) = IsUtf8 t
+MarkIsUtf8 (key t) = IsUtf8 t
+MarkIsUtf8 _ = Unit {0}
 
 -- what the text of a well-known type means is a valid message of that type, wherever one may stand
 abbrev pub GivesValid : Schema → Type 0

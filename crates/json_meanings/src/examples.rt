@@ -1,5 +1,5 @@
 //! Worked examples of the ProtoJSON guide's rules, as laws.
-ghost use Rattle.json_meanings.specs.MeaningExamples.{ScalarMeaningsHold, BytesMeaningsHold, PresenceMeaningsHold, ShapeMeaningsHold};
+ghost use Rattle.json_meanings.specs.MeaningExamples.{ScalarMeaningsHold, BytesMeaningsHold, PresenceMeaningsHold, ShapeMeaningsHold, DepthMeaningsHold};
 ghost use Rattle.json_meanings.specs.JsonFaultExamples.{ValueFaultsHold, KeyFaultsHold, WrongShapesHold, FaultOrdersHold, TokenFaultsHold};
 ghost use Rattle.json_meanings.specs.KnownExamples.{WrapperMeaningsHold, TextTypeMeaningsHold};
 
@@ -21,6 +21,11 @@ pub fn presence_meanings()
 /// Messages, lists and maps.
 pub fn shape_meanings()
     ensures { ShapeMeaningsHold }
+{}
+
+/// What stands at the last level.
+pub fn depth_meanings()
+    ensures { DepthMeaningsHold }
 {}
 
 /// Faults of a value's token.

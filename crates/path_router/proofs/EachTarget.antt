@@ -1,5 +1,6 @@
--- Whether a target has a path can be told (`each_target_is_told`).
-use Rattle.std.proofs.Common.{◌≡◌, ◌≢◌, ◌⊎◌, inl, inr, ◌++◌, ℕ, zero, suc, List, [], ◌∷◌, codes, map, take, drop, refl, sym, ap, ◌∙◌}
+-- Which targets have a path (`which_targets_have_paths`).
+use Rattle.std.proofs.Common.{◌≡◌, ◌≢◌, ◌⊎◌, inl, inr, ◌++◌, ℕ, zero, suc, List, [], ◌∷◌, codes, map, take, drop, refl, sym, subst, ap, ◌∙◌}
+use Rattle.std.specs.Prelude.{◌↔◌}
 use Rattle.std.proofs.lemmas.Bool.{cases_eq}
 use Rattle.std.proofs.lemmas.List.{take-append-drop}
 use Rattle.std.specs.Char.{to_ascii_lowercase}
@@ -95,3 +96,22 @@ each_target target =
         | inr m ↦ inr (pathless target n m)
       ]
     ]
+
+-- what is rooted has a first byte that stays first, whatever follows
+rooted_in : (path query target : List ℕ) → IsRooted path → target ≡ path ++ query → IsRooted target
+rooted_in [] query target r e = absurd r
+rooted_in (b ∷ path) query target r e = subst IsRooted (sym e) r
+
+-- a target has a path exactly where it begins with a slash or behind a scheme
+pub path_is_there : (target : List ℕ)
+    → ((path : List ℕ) × IsTargetPath target path)
+    ↔ (IsRooted target ⊎ ((behind : List ℕ) × IsBehindScheme target behind))
+path_is_there target = (
+  λ p. elim p.1 [ inl o ↦ inl (rooted_in p.0 o.query target o.rooted o.written) | inr a ↦ inr (a.behind, a.scheme) ],
+  λ h. elim h [
+    | inl r ↦ let o = origin target r in (o.0, inl o.1)
+    | inr b ↦
+        let a = absolute b.0 in
+        (a.0, inr (record { behind = b.0; rest = a.1; scheme = b.1; authority = a.2; path_is = a.3 }))
+  ],
+)

@@ -32,5 +32,5 @@ pub mod CountLemmas
 pub mod DecidedFits
 -- Each request has a choice (`each_request_has_a_choice`).
 pub mod EachChoice
--- Whether a target has a path can be told (`each_target_is_told`).
+-- Which targets have a path (`which_targets_have_paths`).
 pub mod EachTarget

@@ -14,7 +14,7 @@ ghost use Rattle.http_rules.specs.declared.template.Template.{Template};
 ghost use Rattle.path_router.specs.BindingMethods.{methods_of};
 ghost use Rattle.path_router.specs.RoutableBindings.{AreRoutable};
 ghost use Rattle.path_router.specs.RouteChoice.{IsChoice, IsFound, Precedes, Serves, ends_of};
-ghost use Rattle.path_router.specs.TargetPath.{IsTargetPath};
+ghost use Rattle.path_router.specs.TargetPath.{IsBehindScheme, IsRooted, IsTargetPath};
 ghost use Rattle.path_router.specs.declared.captures.Span.{Span};
 ghost use Rattle.path_router.specs.declared.routed.Routed.{Routed};
 
@@ -89,8 +89,11 @@ pub fn one_path_of_a_target()
     ensures { (target p q : List ℕ) → IsTargetPath target p → IsTargetPath target q → p ≡ q }
 {}
 
-/// A target has a path, or none.
-pub fn each_target_is_told()
-    ensures { (target : List ℕ)
+/// A target has a path exactly where it begins with a slash, or with the scheme `http` and `://`; and which of the two
+/// holds is decided.
+pub fn which_targets_have_paths()
+    ensures exact { (target : List ℕ) → ((path : List ℕ) × IsTargetPath target path)
+        ↔ (IsRooted target ⊎ ((behind : List ℕ) × IsBehindScheme target behind)) }
+    ensures decided { (target : List ℕ)
         → ((path : List ℕ) × IsTargetPath target path) ⊎ ((path : List ℕ) → IsTargetPath target path → ⊥) }
 {}

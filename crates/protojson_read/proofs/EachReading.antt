@@ -1,5 +1,5 @@
 -- Each text means an item, or there is something wrong with it (`every_text_is_read`).
-use Rattle.std.proofs.Common.{◌≡◌, ◌≢◌, ◌<◌, ◌⊎◌, inl, inr, ◌^◌, ℕ, Bool, true, false, List, length, Option, Some, None, refl, sym, subst, arith}
+use Rattle.std.proofs.Common.{◌≡◌, ◌≢◌, ◌∙◌, ◌↔◌, ◌⊎◌, inl, inr, ℕ, Bool, true, false, List, Option, Some, None, refl, sym, subst, arith}
 use Rattle.std.proofs.lemmas.Bool.{cases_lt}
 use Rattle.std.proofs.lemmas.Int.{ints}
 use Rattle.std.proofs.lemmas.Slice.Eq.{bytes_eq-Decides}
@@ -14,9 +14,14 @@ use Rattle.message_types.specs.declared.fields.Scalar.{Scalar}
 use Rattle.message_types.specs.declared.fields.Scalar.TheVariants.{Int32, Int64, Uint32, Uint64, Sint32, Sint64, Fixed32, Fixed64, Sfixed32, Sfixed64, Bool as BoolOf, Text as TextOf, Bytes as BytesOf, Enumeration}
 use Rattle.message_types.specs.declared.messages.Types.{Types}
 use Rattle.schema.specs.Validity.{IsWithin, IsScalarItem}
-use Rattle.schema.specs.declared.value.Item.TheOpen.{Number, Truth, Text}
+use Rattle.schema.specs.declared.value.Item.TheOpen.{Number, Truth, Text, Bytes}
+use Rattle.base64.specs.GeneralPurpose.{IsBytes}
+use Rattle.known_types.specs.BytesTexts.{IsBytesText}
+use Rattle.json_meanings.specs.SpelledBytes.{spelled_bytes}
+use Rattle.protojson_read.proofs.TextBytes.{bytes_or_not, bytes_text_bytes}
 use Rattle.protojson_read.proofs.ReadingLemmas.{number_told}
-use Rattle.protojson_read.specs.ScalarTexts.{truth_text, named_number, DenotesNumber, DenotesItem, IsEnumKind, IsRead}
+use Rattle.protojson_read.specs.ScalarTexts.{named_number, DenotesNumber, DenotesItem, IsEnumKind, IsRead}
+use Rattle.json_meanings.specs.JsonScalars.{truth_text}
 use Rattle.json_meanings.specs.JsonScalars.{IsNumberKind}
 use Rattle.protojson_read.specs.declared.fault.ScalarFault.TheVariants.{BadText, BadNumber, OutOfRange, BadEnum, NotUtf8}
 
@@ -122,7 +127,7 @@ of_truth types text =
       | yes e ↦ inl (Truth true, (e, tt))
       | no n ↦ elim (equal_bytes text (truth_text false)) [
         | yes e ↦ inl (Truth false, (e, tt))
-        | no m ↦ inr (BadText, (refl, no_truth text n m))
+        | no m ↦ inr (BadText, no_truth text n m)
       ]
     ]
 
@@ -134,25 +139,44 @@ of_text types text = pick (is_utf8 text) refl
     pick false e =
         inr (NotUtf8, (refl, λ u. let t : is_utf8 text ≡ true = is_utf8-from_IsUtf8 text u in absurd (cc (t, e))))
 
--- each text means an item, or there is something wrong with it
-module _ (some : (text : List ℕ) → length text < 2 ^ 64 → (x : IntegerText) × IsIntegerText text x) (types : Types)
-  where
-    number_or_fault : (s : Scalar) (text : List ℕ) → length text < 2 ^ 64 → IsNumberKind s → IsRead types s text
-    number_or_fault s text h k =
-        let x = some text h in of_number types s text k (named_number types s text) refl x.0 x.1
+-- bytes are computed of the texts that spell some
+abbrev AreComputed : Type 0
+AreComputed = (text bytes : List ℕ) → IsBytes text → (IsBytesText text bytes ↔ (spelled_bytes text ≡ Some bytes))
 
-    pub each_reading : (s : Scalar) (text : List ℕ) → s ≢ BytesOf → length text < 2 ^ 64 → IsRead types s text
-    each_reading Int32 text n h = number_or_fault Int32 text h tt
-    each_reading Int64 text n h = number_or_fault Int64 text h tt
-    each_reading Uint32 text n h = number_or_fault Uint32 text h tt
-    each_reading Uint64 text n h = number_or_fault Uint64 text h tt
-    each_reading Sint32 text n h = number_or_fault Sint32 text h tt
-    each_reading Sint64 text n h = number_or_fault Sint64 text h tt
-    each_reading Fixed32 text n h = number_or_fault Fixed32 text h tt
-    each_reading Fixed64 text n h = number_or_fault Fixed64 text h tt
-    each_reading Sfixed32 text n h = number_or_fault Sfixed32 text h tt
-    each_reading Sfixed64 text n h = number_or_fault Sfixed64 text h tt
-    each_reading BoolOf text n h = of_truth types text
-    each_reading TextOf text n h = of_text types text
-    each_reading BytesOf text n h = absurd (n refl)
-    each_reading (Enumeration id) text n h = number_or_fault (Enumeration id) text h tt
+module _ (computed : AreComputed) (types : Types) (text : List ℕ) where
+  by_spelled : IsBytes text → (o : Option (List ℕ)) → spelled_bytes text ≡ o → IsRead types BytesOf text
+  by_spelled are (Some b) e = inl (Bytes b, ((computed text b are).1 e, tt))
+  by_spelled are None e = inr (BadText, λ b h. none_some b (sym e ∙ (computed text b are).0 h))
+    where
+      none_some : (b : List ℕ) → ◌≡◌ {A = Option (List ℕ)} None (Some b) → ⊥
+      none_some b p = cc p
+
+  of_bytes : IsRead types BytesOf text
+  of_bytes = elim (bytes_or_not text) [
+    | yes are ↦ by_spelled are (spelled_bytes text) refl
+    | no n ↦ inr (BadText, λ b h. n (bytes_text_bytes text b h))
+  ]
+
+-- each text means an item, or there is something wrong with it
+module _ (computed : AreComputed)
+    (some : (text : List ℕ) → (x : IntegerText) × IsIntegerText text x)
+    (types : Types) where
+  number_or_fault : (s : Scalar) (text : List ℕ) → IsNumberKind s → IsRead types s text
+  number_or_fault s text k =
+      let x = some text in of_number types s text k (named_number types s text) refl x.0 x.1
+
+  pub each_reading : (s : Scalar) (text : List ℕ) → IsRead types s text
+  each_reading Int32 text = number_or_fault Int32 text tt
+  each_reading Int64 text = number_or_fault Int64 text tt
+  each_reading Uint32 text = number_or_fault Uint32 text tt
+  each_reading Uint64 text = number_or_fault Uint64 text tt
+  each_reading Sint32 text = number_or_fault Sint32 text tt
+  each_reading Sint64 text = number_or_fault Sint64 text tt
+  each_reading Fixed32 text = number_or_fault Fixed32 text tt
+  each_reading Fixed64 text = number_or_fault Fixed64 text tt
+  each_reading Sfixed32 text = number_or_fault Sfixed32 text tt
+  each_reading Sfixed64 text = number_or_fault Sfixed64 text tt
+  each_reading BoolOf text = of_truth types text
+  each_reading TextOf text = of_text types text
+  each_reading BytesOf text = of_bytes computed types text
+  each_reading (Enumeration id) text = number_or_fault (Enumeration id) text tt

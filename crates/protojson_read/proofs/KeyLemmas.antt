@@ -11,19 +11,25 @@ use Rattle.schema.specs.declared.value.Item.TheOpen.{Truth}
 use Rattle.json_events.specs.JsonNumbers.{IsNumber, DenotesInteger}
 use Rattle.json_integers.specs.NumberCut.{are_parts, cut_number}
 use Rattle.json_meanings.specs.EnumNames.{number_named, values_of}
-use Rattle.json_meanings.specs.JsonScalars.{IsNumberKind, enum_as, in_range, number_as, text_as, truth_as}
+use Rattle.json_meanings.specs.JsonScalars.{IsNumberKind, bytes_as, enum_as, in_range, number_as, text_as, truth_as}
+use Rattle.json_meanings.specs.SpelledBytes.{spelled_bytes}
+use Rattle.known_types.specs.BytesTexts.{IsBytesText}
+use Rattle.base64.specs.GeneralPurpose.{IsBytes}
 use Rattle.json_meanings.specs.ScalarLaws.{NumberLawsHold, RangeLawsHold}
 use Rattle.json_meanings.specs.declared.fault.FieldKind.{FieldKind}
 use Rattle.json_meanings.specs.declared.fault.FieldKind.TheVariants as kinds
 use Rattle.protojson_read.specs.KeyTexts.{HasKeyFault, KeyLawsHold, key_fault}
-use Rattle.protojson_read.specs.ScalarTexts.{DenotesNumber, IsEnumKind, IsScalarText, named_number, truth_text}
+use Rattle.protojson_read.specs.ScalarTexts.{DenotesNumber, IsEnumKind, IsScalarText, named_number}
+use Rattle.json_meanings.specs.JsonScalars.{truth_text}
 use Rattle.protojson_read.specs.declared.fault.ScalarFault.TheVariants.{BadText, BadNumber, OutOfRange, BadEnum}
+use Rattle.protojson_read.proofs.TextBytes.{utf8_bytes}
 use Rattle.protojson_read.proofs.ReadingLemmas.{layer_fault, one_fault, one_layer}
 
 module _ (numbers : (s : Scalar) (text : List ℕ) → IsNumberKind s → NumberLawsHold s text)
     (ranges : (s : Scalar) (z : ℤ) → IsNumberKind s → RangeLawsHold s z)
-    (tested : (text : List ℕ) → IsNumber text ↔ (are_parts (cut_number text) ≡ true)) (types : Types)
-    (text : List ℕ) where
+    (tested : (text : List ℕ) → IsNumber text ↔ (are_parts (cut_number text) ≡ true))
+    (computed : (text bytes : List ℕ) → IsBytes text → (IsBytesText text bytes ↔ (spelled_bytes text ≡ Some bytes)))
+    (types : Types) (text : List ℕ) where
   -- what is read of a text is what it means, or its fault
   abbrev IsAnswer : Scalar → Result ItemLayer FieldKind → Type 0
   IsAnswer s (Ok i) = IsScalarText types s text i
@@ -85,7 +91,7 @@ module _ (numbers : (s : Scalar) (text : List ℕ) → IsNumberKind s → Number
       by_false : bytes_eq text (codes "true") ≡ false → (t : Bool) → bytes_eq text (codes "false") ≡ t
           → IsAnswer BoolOf (cond t (Ok (Truth false)) (Err kinds.BadText))
       by_false not_true true e = ((bytes_eq-Decides text (codes "false")).0 e, tt)
-      by_false not_true false e = (BadText, refl, (refl, neither))
+      by_false not_true false e = (BadText, refl, neither)
         where
           neither : (b : Bool) → text ≢ truth_text b
           neither true = is_not (codes "true") not_true
@@ -114,27 +120,35 @@ module _ (numbers : (s : Scalar) (text : List ℕ) → IsNumberKind s → Number
       by_test true t = number_answer s e number (λ h. (tested text).1 t)
       by_test false t = (BadEnum, refl, (enum, none t, no_number t))
 
-  -- what is read of a text
-  answer : (s : Scalar) → s ≢ BytesOf → IsUtf8 text → IsAnswer s (text_as types s text)
-  answer Int32 other utf8 = number_answer Int32 refl tt (λ h. absurd h)
-  answer Int64 other utf8 = number_answer Int64 refl tt (λ h. absurd h)
-  answer Uint32 other utf8 = number_answer Uint32 refl tt (λ h. absurd h)
-  answer Uint64 other utf8 = number_answer Uint64 refl tt (λ h. absurd h)
-  answer Sint32 other utf8 = number_answer Sint32 refl tt (λ h. absurd h)
-  answer Sint64 other utf8 = number_answer Sint64 refl tt (λ h. absurd h)
-  answer Fixed32 other utf8 = number_answer Fixed32 refl tt (λ h. absurd h)
-  answer Fixed64 other utf8 = number_answer Fixed64 refl tt (λ h. absurd h)
-  answer Sfixed32 other utf8 = number_answer Sfixed32 refl tt (λ h. absurd h)
-  answer Sfixed64 other utf8 = number_answer Sfixed64 refl tt (λ h. absurd h)
-  answer BoolOf other utf8 = truth_answer
-  answer TextOf other utf8 = (refl, utf8)
-  answer BytesOf other utf8 = absurd (other refl)
-  answer (Enumeration id) other utf8 = enum_answer (Enumeration id) tt tt (number_named (values_of types id) text) refl
+  bytes_answer : IsBytes text → (o : Option (List ℕ)) → spelled_bytes text ≡ o → IsAnswer BytesOf (bytes_as o)
+  bytes_answer are (Some b) e = ((computed text b are).1 e, tt)
+  bytes_answer are None e = (BadText, refl, λ b h. none_some b (sym e ∙ (computed text b are).0 h))
+    where
+      none_some : (b : List ℕ) → ◌≡◌ {A = Option (List ℕ)} None (Some b) → ⊥
+      none_some b p = cc p
 
-  module _ (one : (y z : ℤ) (text : List ℕ) → DenotesInteger y text → DenotesInteger z text → y ≡ z) (s : Scalar)
-      (other : s ≢ BytesOf) (utf8 : IsUtf8 text) where
+  -- what is read of a text
+  answer : (s : Scalar) → IsUtf8 text → IsAnswer s (text_as types s text)
+  answer Int32 utf8 = number_answer Int32 refl tt (λ h. absurd h)
+  answer Int64 utf8 = number_answer Int64 refl tt (λ h. absurd h)
+  answer Uint32 utf8 = number_answer Uint32 refl tt (λ h. absurd h)
+  answer Uint64 utf8 = number_answer Uint64 refl tt (λ h. absurd h)
+  answer Sint32 utf8 = number_answer Sint32 refl tt (λ h. absurd h)
+  answer Sint64 utf8 = number_answer Sint64 refl tt (λ h. absurd h)
+  answer Fixed32 utf8 = number_answer Fixed32 refl tt (λ h. absurd h)
+  answer Fixed64 utf8 = number_answer Fixed64 refl tt (λ h. absurd h)
+  answer Sfixed32 utf8 = number_answer Sfixed32 refl tt (λ h. absurd h)
+  answer Sfixed64 utf8 = number_answer Sfixed64 refl tt (λ h. absurd h)
+  answer BoolOf utf8 = truth_answer
+  answer TextOf utf8 = (refl, utf8)
+  answer BytesOf utf8 = bytes_answer (utf8_bytes text utf8) (spelled_bytes text) refl
+  answer (Enumeration id) utf8 = enum_answer (Enumeration id) tt tt (number_named (values_of types id) text) refl
+
+  module _ (one : (y z : ℤ) (text : List ℕ) → DenotesInteger y text → DenotesInteger z text → y ≡ z)
+      (spelled : (text a b : List ℕ) → IsBytesText text a → IsBytesText text b → a ≡ b) (s : Scalar)
+      (utf8 : IsUtf8 text) where
     same : IsAnswer s (text_as types s text)
-    same = answer s other utf8
+    same = answer s utf8
 
     -- it is the one that a text has by itself
     pub key_laws : KeyLawsHold types s text
@@ -145,18 +159,18 @@ module _ (numbers : (s : Scalar) (text : List ℕ) → IsNumberKind s → Number
       where
         by_read : (i : ItemLayer) → IsScalarText types s text i → (r : Result ItemLayer FieldKind)
             → text_as types s text ≡ r → r ≡ Ok i
-        by_read i h (Ok j) e = ap Ok (one_layer one types s text j i (subst (IsAnswer s) e same) h)
+        by_read i h (Ok j) e = ap Ok (one_layer one spelled types s text j i (subst (IsAnswer s) e same) h)
         by_read i h (Err k) e =
             let f : HasKeyFault types s text k = subst (IsAnswer s) e same in
-            absurd (layer_fault one types s text i f.0 h f.2)
+            absurd (layer_fault one spelled types s text i f.0 h f.2)
 
         by_fault : (k : FieldKind) → HasKeyFault types s text k → (r : Result ItemLayer FieldKind)
             → text_as types s text ≡ r → r ≡ Err k
-        by_fault k h (Ok j) e = absurd (layer_fault one types s text j h.0 (subst (IsAnswer s) e same) h.2)
+        by_fault k h (Ok j) e = absurd (layer_fault one spelled types s text j h.0 (subst (IsAnswer s) e same) h.2)
         by_fault k h (Err l) e =
             let f : HasKeyFault types s text l = subst (IsAnswer s) e same in
             let found : key_fault f.0 ≡ Some l = f.1 in
             let wanted : key_fault h.0 ≡ Some k = h.1 in
-            let both : f.0 ≡ h.0 = one_fault one types s text f.0 h.0 f.2 h.2 in
+            let both : f.0 ≡ h.0 = one_fault one spelled types s text f.0 h.0 f.2 h.2 in
             let kinds_are : Some l ≡ Some k = sym found ∙ (ap key_fault both ∙ wanted) in
             ap Err (cc kinds_are)

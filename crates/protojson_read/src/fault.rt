@@ -1,9 +1,11 @@
-//! What is wrong with a text.
+//! What is wrong with a text, and with a token.
+
+use json_meanings::FieldKind;
 
 /// What is wrong with the text of a scalar.
 #[derive(Debug, Clone, Copy, PartialEq, Eq)]
 pub enum ScalarFault {
-    /// It is not that of a bool.
+    /// It is not that of a bool, or spells no bytes in base64 (RFC 4648, sections 4 and 5).
     BadText,
     /// It is not that of an integer.
     BadNumber,
@@ -13,6 +15,15 @@ pub enum ScalarFault {
     BadEnum,
     /// It is not UTF-8 (RFC 3629).
     NotUtf8,
-    /// No memory was found for the item, which is a string. Nothing is wrong with its text.
+    /// No memory was found for the item, which is a string or bytes. Nothing is wrong with a string's text then.
+    NoMemory,
+}
+
+/// Why a token is refused.
+#[derive(Debug, Clone, Copy, PartialEq, Eq)]
+pub enum FieldFault {
+    /// The token that begins at this place, from which on the JSON is no value of the type, and why.
+    At(u64, FieldKind),
+    /// Out of memory. Whether the token has a fault is not told.
     NoMemory,
 }

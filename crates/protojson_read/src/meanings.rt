@@ -3,7 +3,7 @@ ghost use Rattle.std.specs.Prelude.{◌≡◌, ◌≢◌, Bool, MatchOption};
 ghost use Rattle.std.specs.Str.{IsUtf8};
 ghost use Rattle.message_types.specs.declared.fields.Scalar.TheVariants.{Bytes as BytesOf};
 ghost use Rattle.protojson_read.specs.ScalarMeanings.{IsMeaning};
-ghost use Rattle.protojson_read.specs.ScalarTexts.{truth_text};
+ghost use Rattle.json_meanings.specs.JsonScalars.{truth_text};
 
 use crate::fault::ScalarFault;
 use crate::numbers::number_meant;

@@ -40,7 +40,7 @@ fn is_enum(scalar: Scalar) -> bool
 
 /// The number of the scalar kind that a text is, or what is wrong with it.
 #[tactic(auto, using(crate::proofs::ReadingLemmas::past_range, crate::proofs::ReadingLemmas::no_number))]
-fn number_of(scalar: Scalar, text: &[u8]) -> Result<i128, ScalarFault>
+pub(crate) fn number_of(scalar: Scalar, text: &[u8]) -> Result<i128, ScalarFault>
     ensures { IsNumberReading scalar text.now result }
 {
     match read_integer(text) {

@@ -1,23 +1,30 @@
 //! Texts of scalars (the ProtoJSON guide, "Representation of each type").
 ghost use Rattle.std.specs.Prelude.{◌≢◌};
-ghost use Rattle.message_types.specs.declared.fields.Scalar.TheVariants.{Bytes};
+ghost use Rattle.message_types.specs.declared.fields.Scalar.TheVariants.{Bytes, Bytes as bytes_kind};
+ghost use Rattle.message_types.specs.declared.messages.Types.{Types as TypesOf};
 ghost use Rattle.protojson_read.specs.ScalarTexts.{IsScalarReading};
 
 use crate::fault::ScalarFault;
 use crate::meanings::{Meaning, meaning_of};
+use known_types::{TextFault, read_bytes};
 use schema::{Item, Scalar, Text, Types};
 use std::alloc::Global;
 
-/// The item that the text of a scalar means. A number's text has JSON's grammar and nothing around it, and counts by
-/// its exact value. Time goes by the length of the text and of the enum's names.
+/// The bytes that a text spells.
+fn bytes_item(alloc: Global, text: &[u8]) -> Result<Item, ScalarFault>
+    ensures { (types : TypesOf) → IsScalarReading types bytes_kind text.now result }
+{
+    match read_bytes(alloc, text) {
+        Ok(bytes) => Ok(Item::Bytes(bytes)),
+        Err(TextFault::BadText) => Err(ScalarFault::BadText),
+        Err(TextFault::NoMemory) => Err(ScalarFault::NoMemory),
+    }
+}
+
+/// The item that the text of a scalar which is no bytes means.
 #[tactic(auto, using(crate::proofs::ReadingLemmas::fault_reading, crate::proofs::ReadingLemmas::no_room))]
-pub fn read_scalar(
-    alloc: Global,
-    types: &Types,
-    scalar: Scalar,
-    text: &[u8],
-) -> Result<Item, ScalarFault>
-    requires read { scalar ≢ Bytes }
+fn item_of(alloc: Global, types: &Types, scalar: Scalar, text: &[u8]) -> Result<Item, ScalarFault>
+    requires { scalar ≢ Bytes }
     ensures { IsScalarReading types.now scalar text.now result }
 {
     match meaning_of(types, scalar, text)? {
@@ -27,5 +34,22 @@ pub fn read_scalar(
             Ok(text) => Ok(Item::Text(text)),
             Err(_) => Err(ScalarFault::NoMemory),
         },
+    }
+}
+
+/// The item that the text of a scalar means. A number's text has JSON's grammar and nothing around it, and counts by
+/// its exact value; that of bytes is base64 in any lawful spelling. Time goes by the length of the text and of the
+/// enum's names.
+pub fn read_scalar(
+    alloc: Global,
+    types: &Types,
+    scalar: Scalar,
+    text: &[u8],
+) -> Result<Item, ScalarFault>
+    ensures { IsScalarReading types.now scalar text.now result }
+{
+    match scalar {
+        Scalar::Bytes => bytes_item(alloc, text),
+        _ => item_of(alloc, types, scalar, text),
     }
 }

@@ -1,5 +1,5 @@
 -- The text of a message of so many levels, opened, and the types that are written by their fields.
-use Rattle.std.proofs.Common.{◌≡◌, ◌-◌, ℕ, zero, suc, List, [], ◌∷◌, Option, arith, refl, ap, sym, ◌∙◌, slice_get, option_map, unwrap_or}
+use Rattle.std.proofs.Common.{◌≡◌, ◌-◌, ℕ, zero, suc, List, [], ◌∷◌, Option, arith, refl, ap, sym, ◌∙◌, slice_get}
 use Rattle.std.specs.List.{AllByRecursion}
 use Rattle.message_types.specs.Types.{field_in, fields_of}
 use Rattle.message_types.specs.declared.fields.Field.{Field}
@@ -12,10 +12,11 @@ use Rattle.schema.specs.Value.{slot_at, slots_of}
 use Rattle.schema.specs.declared.value.Slot.{Slot}
 use Rattle.schema.specs.declared.value.Value.{Value}
 use Rattle.protojson_write.specs.JsonOutput.{members_text, message_text, object_text, part_text, text_within}
-use Rattle.protojson_write.specs.KnownParts.{KnownTexts, AreByFields, IsByFields, known_of}
+use Rattle.protojson_write.specs.KnownParts.{KnownTexts, AreByFields, IsByFields}
+use Rattle.json_meanings.specs.SpotTables.{known_in, known_of}
 
 known_at : (ms : List MessageType) (n : ℕ) → AllByRecursion (λ (m : MessageType). IsByFields m.known) ms
-    → IsByFields (unwrap_or (option_map (λ (m : MessageType). m.known) (slice_get ms n)) Plain)
+    → IsByFields (known_in (slice_get ms n))
 known_at [] n h = tt
 known_at (m ∷ ms) zero h = h.0
 known_at (m ∷ ms) (suc n) h = known_at ms n h.1

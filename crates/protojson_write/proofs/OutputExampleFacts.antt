@@ -21,7 +21,10 @@ messages_hold known = record {
   nested = simp (outs-One, outs-Many, outs-Truth, outs-Message) refl;
   wrapper = simp (outs-One, outs-Message, outs-Number) refl;
   empty_wrapper = simp (outs-One, outs-Message) refl;
+  wrappers = simp (outs-Many, outs-One, outs-Message, outs-Number) refl;
+  optional = simp (outs-One, outs-Number) refl;
   timestamp = refl;
+  unprintable = simp (outs-One, outs-Number, outs-Message) refl;
 }
 
 -- scalars
@@ -31,6 +34,13 @@ scalars_hold = record {
   string = simp (outs-One, outs-Text) refl;
   int32 = simp (outs-One, outs-Number) refl;
   uint64 = simp (outs-One, outs-Number) refl;
+  uint32 = simp (outs-One, outs-Number) refl;
+  sint32 = simp (outs-One, outs-Number) refl;
+  fixed32 = simp (outs-One, outs-Number) refl;
+  sfixed32 = simp (outs-One, outs-Number) refl;
+  sint64 = simp (outs-One, outs-Number) refl;
+  fixed64 = simp (outs-One, outs-Number) refl;
+  sfixed64 = simp (outs-One, outs-Number) refl;
   truth = simp (outs-One, outs-Truth) refl;
   first_name = simp (outs-One, outs-Number) refl;
   no_name = simp (outs-One, outs-Number) refl;
@@ -51,5 +61,8 @@ parts_hold known = record {
   message = refl;
   int64 = refl;
   list_of_one = simp (outs-Many, outs-Number) refl;
+  optional = refl;
+  beside = simp (outs-One, outs-Number) refl;
+  unprintable = simp (outs-One, outs-Message) refl;
   no_field = refl;
 }

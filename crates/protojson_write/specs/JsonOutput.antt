@@ -23,7 +23,8 @@ use Rattle.schema.specs.declared.value.Item.TheOpen.{Message, One, Many, Pairs a
 use Rattle.schema.specs.declared.value.Item.{out-Item, Item}
 use Rattle.schema.specs.declared.value.Slot.{out-Slot, Slot}
 use Rattle.schema.specs.declared.value.Value.{Value}
-use Rattle.protojson_write.specs.KnownParts.{KnownTexts, field_parts, have_texts, known_of, parts_within}
+use Rattle.protojson_write.specs.KnownParts.{KnownTexts, field_parts, have_texts, parts_within}
+use Rattle.json_meanings.specs.SpotTables.{known_of}
 use Rattle.protojson_write.specs.ScalarOutput.{default_of, key_text, quoted, scalar_text}
 
 -- the texts of those behind the first of a list, each behind a comma

@@ -1,6 +1,6 @@
 -- The timestamps, durations and field masks in a value, whose texts have a form of their own: the value has a text
 -- where each of them has.
-use Rattle.std.specs.Prelude.{ℕ, zero, suc, Bool, List, [], ◌∷◌, Option, Some, None, option_map, unwrap_or, slice_get}
+use Rattle.std.specs.Prelude.{ℕ, zero, suc, Bool, List, [], ◌∷◌, Option, Some, None}
 use Rattle.std.specs.List.{AllByRecursion, flat_map, list_all}
 use Rattle.std.specs.Option.{is_some}
 use Rattle.message_types.specs.Types.{field_in, fields_of}
@@ -20,14 +20,11 @@ use Rattle.schema.specs.declared.value.Item.TheOpen.{Message, One, Many, Pairs a
 use Rattle.schema.specs.declared.value.Item.{out-Item, Item}
 use Rattle.schema.specs.declared.value.Slot.{out-Slot, Slot}
 use Rattle.schema.specs.declared.value.Value.{Value}
+use Rattle.json_meanings.specs.SpotTables.{known_of}
 
 -- the texts of timestamps, durations and field masks, without quotes, or none
 abbrev pub KnownTexts : Type 0
 KnownTexts = Known → Value → Option (List ℕ)
-
--- which well-known type a message type is
-abbrev pub known_of : Types → TypeId → Known
-known_of types id = unwrap_or (option_map (λ m. m.known) (slice_get types.messages id.0)) Plain
 
 -- a type is written by its fields alone: any other than a timestamp, a duration or a field mask
 abbrev pub IsByFields : Known → Type 0

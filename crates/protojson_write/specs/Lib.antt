@@ -1,3 +1,6 @@
+pub use Rattle.json_meanings.specs.EnumNames
+pub use Rattle.json_meanings.specs.JsonScalars
+pub use Rattle.json_meanings.specs.SpotTables
 pub mod ScalarOutput
 pub mod KnownParts
 pub mod JsonOutput

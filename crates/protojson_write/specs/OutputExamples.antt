@@ -5,7 +5,7 @@ use Rattle.message_types.specs.declared.fields.Kind.{Kind}
 use Rattle.message_types.specs.declared.fields.Kind.TheVariants.{One as OneOf, Message as MessageOf}
 use Rattle.message_types.specs.declared.fields.Presence.{Presence}
 use Rattle.message_types.specs.declared.fields.Presence.TheVariants.{Implicit, Explicit}
-use Rattle.message_types.specs.declared.fields.Scalar.TheVariants.{Int32, Int64, Uint64, Bool as BoolOf, Text as TextOf, Bytes as BytesOf, Enumeration}
+use Rattle.message_types.specs.declared.fields.Scalar.TheVariants.{Int32, Int64, Uint32, Uint64, Sint32, Sint64, Fixed32, Fixed64, Sfixed32, Sfixed64, Bool as BoolOf, Text as TextOf, Bytes as BytesOf, Enumeration}
 use Rattle.message_types.specs.declared.fields.Shape.{Shape}
 use Rattle.message_types.specs.declared.fields.Shape.TheVariants.{Single, Member, Many as ManyOf, Map as MapOf}
 use Rattle.message_types.specs.declared.messages.Known.TheVariants.{Plain, Wrapper, Timestamp}
@@ -17,12 +17,17 @@ use Rattle.schema.specs.declared.value.Slot.{Slot, One, Many, Pairs}
 use Rattle.schema.specs.declared.value.Value.{Value}
 use Rattle.protojson_write.specs.JsonOutput.{json_text, no_texts}
 
--- a field of one name in JSON
-abbrev pub field : List ℕ → ℕ → Kind → Shape → Presence → Field
-field json n kind shape presence =
-    record { name = json; json = json; number = n; kind = kind; shape = shape; presence = presence; packed = false }
+-- a field with its name and its JSON name
+abbrev pub named_field : List ℕ → List ℕ → ℕ → Kind → Shape → Presence → Field
+named_field name json n kind shape presence =
+    record { name = name; json = json; number = n; kind = kind; shape = shape; presence = presence; packed = false }
 
--- a book, and a wrapper of int64; the kinds of books are NONE 0, NOVEL 1, FICTION 1
+-- a field whose two names are one
+abbrev pub field : List ℕ → ℕ → Kind → Shape → Presence → Field
+field json n kind shape presence = named_field json json n kind shape presence
+
+-- a book, a wrapper of int64 and a timestamp, whose fields play no part here; the kinds of books are NONE 0, NOVEL 1,
+-- FICTION 1
 abbrev pub book_types : Types
 book_types = record {
   messages = record {
@@ -43,6 +48,15 @@ book_types = record {
         ∷ field (codes "rows") 16 (OneOf BoolOf) (MapOf Int64) Implicit
         ∷ field (codes "flags") 17 (MessageOf (record { 0 = 0 })) (MapOf BoolOf) Implicit
         ∷ field (codes "price") 18 (MessageOf (record { 0 = 1 })) Single Explicit
+        ∷ named_field (codes "page_count") (codes "pageCount") 19 (OneOf Uint32) Single Explicit
+        ∷ field (codes "sint32") 20 (OneOf Sint32) Single Implicit
+        ∷ field (codes "fixed32") 21 (OneOf Fixed32) Single Implicit
+        ∷ field (codes "sfixed32") 22 (OneOf Sfixed32) Single Implicit
+        ∷ field (codes "sint64") 23 (OneOf Sint64) Single Implicit
+        ∷ field (codes "fixed64") 24 (OneOf Fixed64) Single Implicit
+        ∷ field (codes "sfixed64") 25 (OneOf Sfixed64) Single Implicit
+        ∷ field (codes "prices") 26 (MessageOf (record { 0 = 1 })) ManyOf Implicit
+        ∷ field (codes "made") 27 (MessageOf (record { 0 = 2 })) Single Explicit
         ∷ [];
   } ∷ record {
     name = codes "google.protobuf.Int64Value";
@@ -106,7 +120,12 @@ pub record MessageExamplesHold : Type 0 where
       ≡ Some (codes "{\"next\":{\"next\":{}},\"parts\":[{},{\"lent\":true}]}")
   pub wrapper : book_text ((18, One (holding ((1, One (Number (pos 7))) ∷ []))) ∷ []) ≡ Some (codes "{\"price\":\"7\"}")
   pub empty_wrapper : book_text ((18, One (holding [])) ∷ []) ≡ Some (codes "{\"price\":\"0\"}")
+  pub wrappers :
+      book_text ((26, Many (holding [] ∷ holding ((1, One (Number (pos 7))) ∷ []) ∷ [])) ∷ [])
+      ≡ Some (codes "{\"prices\":[\"0\",\"7\"]}")
+  pub optional : book_text ((19, One (Number (pos 0))) ∷ []) ≡ Some (codes "{\"pageCount\":0}")
   pub timestamp : json_text no_texts book_types (record { 0 = 2 }) None nothing ≡ None
+  pub unprintable : book_text ((3, One (Number (pos 1))) ∷ (27, One (holding [])) ∷ []) ≡ None
 
 -- scalars: escapes, numbers in quotes, and an enum's number without a name
 pub record ScalarExamplesHold : Type 0 where
@@ -115,6 +134,13 @@ pub record ScalarExamplesHold : Type 0 where
   pub int32 : field_of_book 3 ((3, One (Number (negsuc 2147483647))) ∷ []) ≡ Some (codes "-2147483648")
   pub uint64 : field_of_book 11 ((11, One (Number (pos 18446744073709551615))) ∷ [])
       ≡ Some (codes "\"18446744073709551615\"")
+  pub uint32 : field_of_book 19 ((19, One (Number (pos 4294967295))) ∷ []) ≡ Some (codes "4294967295")
+  pub sint32 : field_of_book 20 ((20, One (Number (negsuc 0))) ∷ []) ≡ Some (codes "-1")
+  pub fixed32 : field_of_book 21 ((21, One (Number (pos 7))) ∷ []) ≡ Some (codes "7")
+  pub sfixed32 : field_of_book 22 ((22, One (Number (negsuc 9))) ∷ []) ≡ Some (codes "-10")
+  pub sint64 : field_of_book 23 ((23, One (Number (negsuc 0))) ∷ []) ≡ Some (codes "\"-1\"")
+  pub fixed64 : field_of_book 24 ((24, One (Number (pos 7))) ∷ []) ≡ Some (codes "\"7\"")
+  pub sfixed64 : field_of_book 25 ((25, One (Number (negsuc 9))) ∷ []) ≡ Some (codes "\"-10\"")
   pub truth : field_of_book 12 ((12, One (Truth true)) ∷ []) ≡ Some (codes "true")
   pub first_name : field_of_book 5 ((5, One (Number (pos 1))) ∷ []) ≡ Some (codes "\"NOVEL\"")
   pub no_name : field_of_book 5 ((5, One (Number (negsuc 0))) ∷ []) ≡ Some (codes "-1")
@@ -132,4 +158,7 @@ pub record PartExamplesHold : Type 0 where
   pub message : field_of_book 14 [] ≡ Some (codes "null")
   pub int64 : json_text no_texts book_types (record { 0 = 1 }) (Some 1) nothing ≡ Some (codes "\"0\"")
   pub list_of_one : field_of_book 4 ((4, Many (Number (pos 0) ∷ [])) ∷ []) ≡ Some (codes "[\"0\"]")
+  pub optional : field_of_book 19 [] ≡ Some (codes "null")
+  pub beside : field_of_book 3 ((3, One (Number (pos 1))) ∷ (27, One (holding [])) ∷ []) ≡ Some (codes "1")
+  pub unprintable : field_of_book 27 ((27, One (holding [])) ∷ []) ≡ None
   pub no_field : field_of_book 1 [] ≡ None

@@ -1,11 +1,10 @@
 -- The texts of numbers, truth values, strings, bytes and enums, and of the defaults of their kinds (the ProtoJSON
 -- guide).
-use Rattle.std.specs.Prelude.{◌++◌, ℕ, ℤ, pos, Bool, false, List, [], ◌∷◌, Option, Some, None, if◌then◌else◌, codes, slice_get, option_map, unwrap_or}
+use Rattle.std.specs.Prelude.{◌++◌, ℕ, ℤ, pos, false, List, [], ◌∷◌, Option, Some, None, if◌then◌else◌}
 use Rattle.std.specs.Fmt.{signed_decimal}
 use Rattle.std.specs.Ordering.{int_eq}
 use Rattle.json_events.specs.StringOutput.{json_string}
 use Rattle.known_types.specs.BytesTexts.{bytes_text}
-use Rattle.message_types.specs.declared.enums.EnumId.{EnumId}
 use Rattle.message_types.specs.declared.enums.EnumValue.{EnumValue}
 use Rattle.message_types.specs.declared.fields.Scalar.{Scalar}
 use Rattle.message_types.specs.declared.fields.Scalar.TheVariants.{Int64, Uint64, Sint64, Fixed64, Sfixed64, Bool as BoolOf, Text as TextOf, Bytes as BytesOf, Enumeration}
@@ -14,18 +13,12 @@ use Rattle.schema.specs.Layers.{ItemLayer}
 use Rattle.schema.specs.declared.key.Key.{Key}
 use Rattle.schema.specs.declared.key.Key.TheVariants.{Number as NumberKey, Truth as TruthKey, Text as TextKey}
 use Rattle.schema.specs.declared.value.Item.TheOpen.{Number, Truth, Text, Bytes, Message}
+use Rattle.json_meanings.specs.EnumNames.{values_of}
+use Rattle.json_meanings.specs.JsonScalars.{truth_text}
 
 -- a text between quotation marks, where none of its bytes wants an escape
 abbrev pub quoted : List ℕ → List ℕ
 quoted text = 34 ∷ (text ++ 34 ∷ [])
-
--- a truth value
-abbrev pub truth_text : Bool → List ℕ
-truth_text t = if t then codes "true" else codes "false"
-
--- the values of an enum, in declared order; none where there is no such enum
-abbrev pub values_of : Types → EnumId → List EnumValue
-values_of types id = unwrap_or (option_map (λ e. e.values) (slice_get types.enums id.0)) []
 
 -- the first declared name of a number
 abbrev pub name_of : List EnumValue → ℤ → Option (List ℕ)

@@ -8,9 +8,9 @@ use std::alloc::{AllocError, AllocFailed};
 /// Why a value is not shown.
 #[derive(Clone, Copy, Debug, PartialEq, Eq)]
 pub enum ShowFault {
-    /// It has no text.
+    /// It has no text: the type has no field of this number.
     Unprintable,
-    /// Its text is longer than the limit.
+    /// Its text has more bytes than the limit.
     TooLong,
     /// Out of memory.
     NoMemory,

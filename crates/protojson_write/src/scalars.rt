@@ -6,7 +6,9 @@ ghost use Rattle.std.specs.Ordering.{int_eq};
 ghost use Rattle.base.specs.Extends.{Extends};
 ghost use Rattle.known_types.specs.BytesTexts.{bytes_text};
 ghost use Rattle.schema.specs.declared.value.Item.{out-Item};
-ghost use Rattle.protojson_write.specs.ScalarOutput.{default_of, enum_text, key_text, name_of, number_text, quoted, scalar_text, truth_text, values_of};
+ghost use Rattle.protojson_write.specs.ScalarOutput.{default_of, enum_text, key_text, name_of, number_text, quoted, scalar_text};
+ghost use Rattle.json_meanings.specs.EnumNames.{values_of};
+ghost use Rattle.json_meanings.specs.JsonScalars.{truth_text};
 
 use base::{NoMemory, Text};
 use itoa::Buffer;

@@ -61,8 +61,9 @@ fn put_field(
     check(out, within)
 }
 
-/// Appends the text of a valid value of the type, or of the one field `part`. Until timestamps, durations and field
-/// masks have texts, no type is one. With every refusal, `out` is as before.
+/// Appends the text of a valid value of the type, or of its one field of the number `part`: Unprintable where the type
+/// has no such field. TooLong where the text alone has over `limit` bytes. Until timestamps, durations and field masks
+/// have texts, no type is one. With every refusal, `out` is as before.
 pub fn show(
     types: &Types,
     id: TypeId,

@@ -9,7 +9,8 @@ ghost use Rattle.schema.specs.Value.{slot_at};
 ghost use Rattle.schema.specs.declared.value.Item.{out-Item};
 ghost use Rattle.schema.specs.declared.value.Slot.{out-Slot, Slot as SlotOf};
 ghost use Rattle.protojson_write.specs.JsonOutput.{absent_text, array_text, object_text, single_default};
-ghost use Rattle.protojson_write.specs.KnownParts.{AreByFields, known_of};
+ghost use Rattle.json_meanings.specs.SpotTables.{known_of};
+ghost use Rattle.protojson_write.specs.KnownParts.{AreByFields};
 ghost use Rattle.protojson_write.specs.ShowAnswers.{IsStop};
 ghost use Rattle.protojson_write.specs.WriterTexts.{MayStop, entry_of, item_of, items_of, member_of, members_of, message_of, object_of, other_items_of, other_members_of, other_pairs_of, pairs_of, part_of, slot_of};
 

@@ -57,7 +57,7 @@ SpansInside =
 abbrev pub EachBinding : Type 0
 EachBinding =
     (api : Api) (index : ℕ) (path : List ℕ) (spans : List Span) → IsLinked api → AreCapturesOf api index path spans
-    → BindsScalars api index → length path < 2 ^ 64
+    → BindsScalars api index
     → (r : Result Assignments BindFault) × IsPathBinding api index path spans r × (r ≢ Err binds.NoMemory)
 
 -- what a path binds fits the input
@@ -193,8 +193,7 @@ module _ (each_target : EachTarget) (one_path : OnePath) (each_choice : EachChoi
   formed path index spans r (yes b) =
       let ready =
       ready_of api method target path index spans (inside api.bindings method path index spans) r.found b in
-      let short : length path < 2 ^ 64 = omega (arith, r.found.matches.is_path) in
-      let bound = each_binding api index path spans linked ready.captures ready.scalars short in
+      let bound = each_binding api index path spans linked ready.captures ready.scalars in
       read path index spans (record { routed = r; built = b }) bound.0 bound.1 bound.2
 
   -- of a request that has a path

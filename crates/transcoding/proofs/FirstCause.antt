@@ -11,10 +11,9 @@ use Rattle.path_router.specs.declared.captures.Span.{Span}
 use Rattle.transcoding.proofs.AnswerLemmas.{OneBinding, OneChoice, OneMessage, OnePath, one_answer}
 use Rattle.transcoding.proofs.CallLemmas.{parsed}
 use Rattle.transcoding.proofs.EachAnswer.{refusal_told}
-use Rattle.transcoding.specs.BuiltForms.{HasQuery}
 use Rattle.transcoding.specs.CauseOrder.{MeansOnly}
-use Rattle.transcoding.specs.RoutedRequest.{IsMethodNotServed, IsRouted}
-use Rattle.transcoding.specs.TranscodedRequest.{IsBoundRequest, IsReadable, IsTranscoding, IsWrongValue}
+use Rattle.transcoding.specs.RoutedRequest.{IsMethodNotServed, IsPathUnknown}
+use Rattle.transcoding.specs.TranscodedRequest.{HasMessage, IsBoundRequest, IsNotBuilt, IsReadable, IsTranscoding, IsWrongValue}
 use Rattle.transcoding.specs.declared.refusal.RequestRefusal.{RequestRefusal}
 use Rattle.transcoding.specs.declared.refusal.RequestRefusal.TheVariants.{NotBuilt, Listed}
 
@@ -40,11 +39,11 @@ module _ (one_path : OnePath) (one_choice : OneChoice) (one_binding : OneBinding
       refused (Listed refusals.MethodNotAllowed) (λ e. absurd (cc e))
       (record { served = served; path = path; target_path = t; bits = bits; wrong = w })
 
-  pub by_query : (path : List ℕ) (index : ℕ) (spans : List Span) → IsRouted api method target path index spans
-      → HasQuery target → MeansOnly api method target body (Err NotBuilt)
-  by_query path index spans r q =
-      refused NotBuilt (λ e. absurd (cc e))
-      (record { path = path; index = index; spans = spans; routed = r; not_built = λ b. b.no_query q })
+  pub by_path : IsPathUnknown api method target → MeansOnly api method target body (Err (Listed refusals.PathUnknown))
+  by_path h = refused (Listed refusals.PathUnknown) (λ e. absurd (cc e)) h
+
+  pub by_form : IsNotBuilt api method target → MeansOnly api method target body (Err NotBuilt)
+  by_form h = refused NotBuilt (λ e. absurd (cc e)) h
 
   pub by_value : (path : List ℕ) (index : ℕ) (spans : List Span) (n : ℕ) (fault : ValueFault)
       → IsReadable api method target path index spans → IsWrongValue api index path spans n fault
@@ -58,3 +57,9 @@ module _ (one_path : OnePath) (one_choice : OneChoice) (one_binding : OneBinding
   by_body index a b long =
       refused (Listed refusals.BodyTooLong) (λ e. absurd (cc e))
       (record { index = index; assignments = a; bound = b; long = long })
+
+  pub by_message : (path bytes : List ℕ) → HasMessage api method target body path bytes → 1048576 < length bytes
+      → MeansOnly api method target body (Err (Listed refusals.MessageTooLong))
+  by_message path bytes h long =
+      refused (Listed refusals.MessageTooLong) (λ e. absurd (cc e))
+      (record { path = path; bytes = bytes; message = h; long = long })

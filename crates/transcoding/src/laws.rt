@@ -8,10 +8,9 @@ ghost use Rattle.linked_api.specs.declared.api.Api.{Api};
 ghost use Rattle.path_router.specs.RouteChoice.{IsWrongMethod};
 ghost use Rattle.path_router.specs.TargetPath.{IsTargetPath};
 ghost use Rattle.path_router.specs.declared.captures.Span.{Span};
-ghost use Rattle.transcoding.specs.BuiltForms.{HasQuery};
 ghost use Rattle.transcoding.specs.CauseOrder.{MeansOnly};
-ghost use Rattle.transcoding.specs.RoutedRequest.{IsMethodNotServed, IsRouted};
-ghost use Rattle.transcoding.specs.TranscodedRequest.{IsBoundRequest, IsReadable, IsTranscoding, IsWrongValue, TranscodedRequest};
+ghost use Rattle.transcoding.specs.RoutedRequest.{IsMethodNotServed, IsPathUnknown};
+ghost use Rattle.transcoding.specs.TranscodedRequest.{HasMessage, IsBoundRequest, IsNotBuilt, IsReadable, IsTranscoding, IsWrongValue, TranscodedRequest};
 ghost use Rattle.transcoding.specs.declared.refusal.RequestRefusal.{RequestRefusal};
 ghost use Rattle.transcoding.specs.declared.refusal.RequestRefusal.TheVariants as requests;
 
@@ -33,7 +32,7 @@ pub fn each_request_is_answered()
         → (r : Result TranscodedRequest RequestRefusal) × IsTranscoding api method target body r
         × (r ≢ Err (requests.Listed refusals.NoMemory)) }
 {
-    path_router::laws::each_target_is_told();
+    path_router::laws::which_targets_have_paths();
     path_router::laws::one_path_of_a_target();
     path_router::laws::each_request_has_a_choice();
     path_router::laws::found_spans_lie_inside();
@@ -44,17 +43,18 @@ pub fn each_request_is_answered()
     linked_api::laws::bindings_are_servable();
 }
 
-/// Where several causes meet the first one counts, whatever comes behind it: a method that is never served before
-/// the target; a wrong method before a query; a query before a wrong value; a wrong value before a long body; a long
-/// body before its message.
+/// Where several causes meet the first one counts, whatever comes behind it: a method that is never served, before
+/// the target; a path that is unknown; a method that is not allowed; a form that is not built; a wrong value; a long
+/// body; a long message.
 pub fn first_cause_counts()
     ensures method { (api : Api) (method target body : List ℕ) → IsLinked api → IsMethodNotServed method
         → MeansOnly api method target body (Err (requests.Listed refusals.MethodNotServed)) }
+    ensures path { (api : Api) (method target body : List ℕ) → IsLinked api → IsPathUnknown api method target
+        → MeansOnly api method target body (Err (requests.Listed refusals.PathUnknown)) }
     ensures wrong_method { (api : Api) (method target body path : List ℕ) (bits : ℕ) → IsLinked api
         → (IsMethodNotServed method → ⊥) → IsTargetPath target path → IsWrongMethod api.bindings method path bits
         → MeansOnly api method target body (Err (requests.Listed refusals.MethodNotAllowed)) }
-    ensures query { (api : Api) (method target body path : List ℕ) (index : ℕ) (spans : List Span) → IsLinked api
-        → IsRouted api method target path index spans → HasQuery target
+    ensures not_built { (api : Api) (method target body : List ℕ) → IsLinked api → IsNotBuilt api method target
         → MeansOnly api method target body (Err requests.NotBuilt) }
     ensures value { (api : Api) (method target body path : List ℕ) (index : ℕ) (spans : List Span) (n : ℕ)
         (fault : ValueFault) → IsLinked api → IsReadable api method target path index spans
@@ -63,6 +63,9 @@ pub fn first_cause_counts()
     ensures body { (api : Api) (method target body : List ℕ) (index : ℕ) (a : Assignments) → IsLinked api
         → IsBoundRequest api method target index a → 1048576 < length body
         → MeansOnly api method target body (Err (requests.Listed refusals.BodyTooLong)) }
+    ensures message { (api : Api) (method target body path bytes : List ℕ) → IsLinked api
+        → HasMessage api method target body path bytes → 1048576 < length bytes
+        → MeansOnly api method target body (Err (requests.Listed refusals.MessageTooLong)) }
 {
     path_router::laws::one_path_of_a_target();
     path_router::laws::one_choice();

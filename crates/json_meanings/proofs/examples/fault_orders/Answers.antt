@@ -9,5 +9,6 @@ returns c = record {
   oneof_before_depth = refl;
   shape_before_depth = refl;
   key_before_depth = refl;
+  null_before_depth = refl;
   first_of_two = refl;
 }

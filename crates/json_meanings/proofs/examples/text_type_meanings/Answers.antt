@@ -17,4 +17,6 @@ returns c = record {
   time_at_level_101 = refl;
   depth_before_text = refl;
   shape_before_depth = refl;
+  bracket_before_depth = refl;
+  time_at_level_100 = refl;
 }

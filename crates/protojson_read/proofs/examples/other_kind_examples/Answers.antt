@@ -4,7 +4,7 @@ use lib.Utf8.{encode}
 use Rattle.std.specs.Str.{is_utf8, chars, bytes_eq}
 use Rattle.std.proofs.lemmas.Int.{ints}
 use Rattle.std.proofs.lemmas.Str.{IsUtf8-from_is_utf8, is_utf8-from_IsUtf8}
-use Rattle.protojson_read.specs.ScalarTexts.{truth_text}
+use Rattle.json_meanings.specs.JsonScalars.{truth_text}
 use Rattle.protojson_read.proofs.examples.other_kind_examples.Goals as goal
 
 no_capital : (b : Bool) → codes "True" ≢ truth_text b
@@ -23,8 +23,8 @@ returns c =
     record {
       truth = (refl, tt);
       falsehood = (refl, tt);
-      capital = (refl, no_capital);
-      digit = (refl, no_digit);
+      capital = no_capital;
+      digit = no_digit;
       text = (refl, IsUtf8-from_is_utf8 (codes "1.5") refl);
       lone_byte = (refl, λ u. let x : false ≡ true = is_utf8-from_IsUtf8 (255 ∷ []) u in absurd (cc));
       name = (refl, (omega (arith, ints), omega (arith, ints)));

@@ -1,0 +1,34 @@
+//! Prints the texts that values have in JSON (the ProtoJSON guide), over the types of a descriptor set.
+//!
+//! The first line of the input is a descriptor set, as a word of bytes. Each line behind it is answered by one:
+//!
+//! - `show N BYTES`: the text of what the bytes are as a message of the input type of the set's N-th bound method,
+//!   counted from 0;
+//! - `part N FIELD BYTES`: the text of its field with this number.
+//!
+//! A value without a text is answered by the name of the fault, bytes that are no message by what is wrong with them.
+//! Lines that are empty or begin with `#` are left out. A set that is not served, or that has a timestamp, a duration
+//! or a field mask, is answered by `no set` alone.
+#![tactic(auto)]
+
+mod by_fields;
+mod served;
+mod telling;
+
+use rows::bytes_of;
+use served::served;
+use std::io::{self, BufRead, BufReader, BufWriter, Write};
+use telling::tell_lines;
+
+fn main(rt: HostRuntime) -> io::Result<()> {
+    let alloc = rt.alloc();
+    let mut out = BufWriter::new(alloc, io::writer(&rt))?;
+    let mut input = BufReader::new(alloc, rt.reader())?;
+    let mut first = String::new(alloc);
+    input.read_line(&mut first)?;
+    match served(alloc, bytes_of(alloc, first.trim_end())?.as_slice()) {
+        Some(api) => tell_lines(alloc, &api, input, &mut out)?,
+        None => out.write_all(b"no set\n")?,
+    }
+    out.flush()
+}

@@ -1,0 +1,130 @@
+//! What has come of a message.
+ghost use Rattle.std.specs.Prelude.{◌≡◌, IfOk, option_map};
+ghost use Rattle.json_meanings.specs.PartialMessages.{empty_message, field_named, form_of, has_number, is_taken, oneofs_with, put_field, value_of};
+ghost use Rattle.protojson_read.specs.MessageSeen.{form_seen, message_seen};
+
+use base::NoMemory;
+use schema::{Field, Kind, Presence, Shape, Slot, Value};
+use std::alloc::Global;
+
+/// What the reading of a value needs of its field.
+#[derive(Clone, Copy, Debug)]
+pub(crate) struct FieldForm {
+    /// The field's number.
+    pub(crate) number: u32,
+    /// What one value is.
+    pub(crate) kind: Kind,
+    /// How many there are.
+    pub(crate) shape: Shape,
+    /// Whether the default is told from absence.
+    pub(crate) presence: Presence,
+}
+
+/// A message that has begun: the numbers of the fields that its keys named, the oneofs of which a member has a value,
+/// and the value so far.
+#[derive(Drop)]
+pub(crate) struct PartialMessage {
+    pub(crate) seen: Vec<u32>,
+    pub(crate) oneofs: Vec<u32>,
+    pub(crate) value: Value,
+}
+
+/// Whether a number is one of these.
+fn has_number(numbers: &[u32], number: u32) -> bool
+    ensures { result ≡ has_number number numbers.now }
+{
+    for n in numbers {
+        if number == *n {
+            return true;
+        }
+    }
+    false
+}
+
+/// The form of a field.
+pub(crate) fn form_of(field: &Field) -> FieldForm
+    ensures { form_seen result ≡ form_of field.now }
+{
+    FieldForm {
+        number: field.number,
+        kind: field.kind,
+        shape: field.shape,
+        presence: field.presence,
+    }
+}
+
+/// The form of the field that a key names, by its JSON name or by its name.
+pub(crate) fn form_named(fields: &[Field], name: &str) -> Option<FieldForm>
+    ensures { option_map form_seen result ≡ option_map form_of (field_named name.now fields.now) }
+{
+    for field in fields {
+        if name == field.json.as_str() || name == field.name.as_str() {
+            return Some(form_of(field));
+        }
+    }
+    None
+}
+
+/// Keeps the oneof of which a field with this shape is a member.
+fn keep_oneof(shape: Shape, oneofs: &mut Vec<u32>) -> Result<(), NoMemory>
+    ensures { IfOk result (λ r. oneofs.new.items ≡ oneofs_with shape oneofs.old.items) }
+{
+    match shape {
+        Shape::Member(oneof) => {
+            oneofs.push(oneof)?;
+            Ok(())
+        }
+        _ => Ok(()),
+    }
+}
+
+impl PartialMessage {
+    /// A message of which nothing has come. Takes no memory.
+    pub(crate) fn new(alloc: Global) -> PartialMessage
+        ensures { message_seen result ≡ empty_message }
+    {
+        PartialMessage {
+            seen: Vec::new(alloc),
+            oneofs: Vec::new(alloc),
+            value: Value::new(alloc),
+        }
+    }
+
+    /// Whether a key named the field of this number.
+    pub(crate) fn is_seen(&self, number: u32) -> bool
+        ensures { result ≡ has_number number (message_seen self.now).seen }
+    {
+        has_number(self.seen.as_slice(), number)
+    }
+
+    /// Whether another member of the oneof of a field with this shape has a value.
+    pub(crate) fn is_taken(&self, shape: Shape) -> bool
+        ensures { result ≡ is_taken (message_seen self.now) shape }
+    {
+        match shape {
+            Shape::Member(oneof) => has_number(self.oneofs.as_slice(), oneof),
+            _ => false,
+        }
+    }
+
+    /// Adds a field that has a slot or is unset.
+    pub(crate) fn put(&mut self, form: FieldForm, slot: Option<Slot>) -> Result<(), NoMemory>
+        ensures { IfOk result (λ r. message_seen self.new ≡ put_field (message_seen self.old) (form_seen form) slot) }
+    {
+        self.seen.push(form.number)?;
+        match slot {
+            None => Ok(()),
+            Some(slot) => {
+                keep_oneof(form.shape, &mut self.oneofs)?;
+                self.value.set(form.number, slot)
+            }
+        }
+    }
+
+    /// The message.
+    pub(crate) fn into_value(self) -> Value
+        ensures { result ≡ value_of (message_seen self) }
+    {
+        self.value
+    }
+}

@@ -1,0 +1,328 @@
+#!/usr/bin/env python3
+"""Compares the texts that values have with those of Python's protobuf, on random values of scripts/values.proto.
+
+Python makes a value and writes its bytes. The program prints its text, and the text of one of its fields: both are
+byte for byte what Python's `json_format` says of it, and `json_format` reads the text of the whole as the same value.
+Where ProtoJSON leaves the form open, the program's differs from that of `json_format`, and the wanted text is put so:
+
+- no white space, where `json_format` writes a blank behind each comma and colon;
+- members by rising field number, as `json_format` has them;
+- entries of a map by rising key: integers by value, false before true, strings by their bytes, where `json_format` has the
+  order of its own table;
+- of a string `"`, `\\`, and the characters below U+0020 are escaped, those with a short escape by it and the others by
+  `\\u00xx` with small letters; all others stand as UTF-8 (`json_format` escapes each that is not ASCII, unless told not to);
+- one field alone: an absent list is `[]`, an absent map is `{}`, an absent field without presence its default, and one with
+  presence null (`json_format` has no text of a field alone, and leaves such a field out).
+
+Floats are no part of it: a set that reaches one is not served. The set is what protoc writes of scripts/values.proto,
+without the files that only its annotations want: the first line of crates/json_values/stdin has it.
+
+usage: json_values.py [PROGRAM [COUNT [SEED]]] | --set
+
+Without PROGRAM it builds the program from the checked crate. It fails too where a field is not asked alone both set and
+absent, as happens with a COUNT below 10,000. --set prints the set as that first line. Exit status 77 says that
+Python's protobuf, protoc or the files of google/api are missing.
+"""
+import inspect
+import json
+import pathlib
+import random
+import shutil
+import subprocess
+import sys
+import tempfile
+
+try:
+    from google.protobuf import descriptor_pb2, descriptor_pool, json_format, message_factory
+except ImportError:
+    print("missing: Python's protobuf")
+    sys.exit(77)
+
+ROOT = pathlib.Path(__file__).resolve().parent.parent
+
+sys.path.insert(0, str(ROOT / "scripts"))
+from program import built  # noqa: E402
+from protoc_set import google_api  # noqa: E402
+
+KEPT_FILES = ["google/protobuf/wrappers.proto", "values.proto"]
+WRAPPERS = KEPT_FILES[0]
+
+# How deep random values are, and trees: 100 levels are the most that have a value.
+MAX_DEPTH, MAX_LEVELS = 5, 100
+
+# The word by which `json_format` tells defaults of fields without presence, of old and in newer versions.
+WITH_DEFAULTS = "including_default_value_fields"
+if WITH_DEFAULTS not in inspect.signature(json_format.MessageToDict).parameters:
+    WITH_DEFAULTS = "always_print_fields_with_no_presence"
+
+
+def values_set(include):
+    """The set of scripts/values.proto: its own file, and that of the wrappers without its options."""
+    with tempfile.TemporaryDirectory() as name:
+        made = ["protoc", f"-I{ROOT}/scripts", f"-I{include}", "-I/usr/include", "--include_imports", f"--descriptor_set_out={name}/set.bin", "values.proto"]
+        subprocess.run(made, check=True)
+        whole = descriptor_pb2.FileDescriptorSet.FromString((pathlib.Path(name) / "set.bin").read_bytes())
+    kept = descriptor_pb2.FileDescriptorSet(file=[one for one in whole.file if one.name in KEPT_FILES])
+    for one in kept.file:
+        if one.name == WRAPPERS:
+            one.ClearField("options")
+    return kept.SerializeToString(deterministic=True)
+
+
+def types_of(data):
+    """The classes of the input types of the set's methods, in their order."""
+    pool = descriptor_pool.DescriptorPool()
+    for file in descriptor_pb2.FileDescriptorSet.FromString(data).file:
+        if file.name not in KEPT_FILES[:1]:
+            file.dependency[:] = KEPT_FILES[:1]
+            for service in file.service:
+                for method in service.method:
+                    method.ClearField("options")
+        pool.Add(file)
+    inputs = [method.input_type for method in pool.FindServiceByName("values.v1.Values").methods]
+    if hasattr(message_factory, "GetMessageClass"):
+        return [message_factory.GetMessageClass(declared) for declared in inputs]
+    factory = message_factory.MessageFactory(pool)
+    return [factory.GetPrototype(declared) for declared in inputs]
+
+
+# Random values.
+
+CHARACTERS = "ab zZ09\"\\/'<>&{}[]:,\x00\x01\x08\t\n\x0b\x0c\r\x1b\x1f\x7f\x80\x9f\xe9\u07ff\u0800\u2028\u2029\u20ac\ud7ff\ue000\ufeff\ufffe\uffff\U00010000\U0001d11e\U0010ffff"
+WORDS = ["", "null", "true", "1", "-1", "NaN", "\u00e9", "\u00e9" * 40, "\uffff", "\U00010000", "RED", "a b", '{"a":1}', "\\u0041"]
+
+
+def random_text(r):
+    if r.random() < 0.2:
+        return r.choice(WORDS)
+    return "".join(r.choice(CHARACTERS) for _ in range(r.choice([1, 1, 2, 3, 5, 8, 30])))
+
+
+def random_bytes(r):
+    return bytes(r.choice([0, 251, 255, 62, 63, r.randrange(256)]) for _ in range(r.choice([0, 1, 2, 3, 4, 5, 6, 7, 30])))
+
+
+def random_integer(r, low, high):
+    """An integer of a range: near an end of it, near one of 32 bits, small, or any."""
+    near = r.choice([low, high, 0, 0, 1, -1, 2**31, 2**32, 10 ** r.randrange(19), r.randrange(low, high + 1)])
+    return min(high, max(low, near + r.choice([0, 0, 0, 1, -1, 9])))
+
+
+def random_enum(r, declared):
+    """A number of an enum, named or not."""
+    if r.random() < 0.7:
+        return r.choice(list(declared.values)).number
+    return random_integer(r, -2**31, 2**31 - 1)
+
+
+def random_scalar(r, field):
+    kind = field.type
+    if kind == field.TYPE_BOOL:
+        return r.random() < 0.5
+    if kind == field.TYPE_STRING:
+        return random_text(r)
+    if kind == field.TYPE_BYTES:
+        return random_bytes(r)
+    if kind == field.TYPE_ENUM:
+        return random_enum(r, field.enum_type)
+    if kind in (field.TYPE_INT64, field.TYPE_SINT64, field.TYPE_SFIXED64):
+        return random_integer(r, -2**63, 2**63 - 1)
+    if kind in (field.TYPE_UINT64, field.TYPE_FIXED64):
+        return random_integer(r, 0, 2**64 - 1)
+    if kind in (field.TYPE_UINT32, field.TYPE_FIXED32):
+        return random_integer(r, 0, 2**32 - 1)
+    assert kind in (field.TYPE_INT32, field.TYPE_SINT32, field.TYPE_SFIXED32), field.full_name
+    return random_integer(r, -2**31, 2**31 - 1)
+
+
+def is_map(field):
+    return field.message_type is not None and field.message_type.GetOptions().map_entry
+
+
+def fill_map(r, entries, field, depth):
+    key, value = field.message_type.fields_by_name["key"], field.message_type.fields_by_name["value"]
+    for _ in range(r.choice([1, 1, 2, 3, 5])):
+        one = random_scalar(r, key)
+        if value.message_type is not None:
+            fill(r, entries[one], depth + 1)
+        else:
+            entries[one] = random_scalar(r, value)
+
+
+def fill_field(r, message, field, depth):
+    held = getattr(message, field.name)
+    if is_map(field):
+        fill_map(r, held, field, depth)
+    elif field.label == field.LABEL_REPEATED:
+        for _ in range(r.choice([1, 1, 2, 3])):
+            if field.message_type is not None:
+                fill(r, held.add(), depth + 1)
+            else:
+                held.append(random_scalar(r, field))
+    elif field.message_type is not None:
+        held.SetInParent()
+        fill(r, held, depth + 1)
+    else:
+        setattr(message, field.name, random_scalar(r, field))
+
+
+def fill(r, message, depth=0):
+    """Sets some fields of a message, fewer the deeper it is; a later member of a oneof clears an earlier one."""
+    fields = list(message.DESCRIPTOR.fields)
+    share = r.choice([0.1, 0.3, 0.3, 0.6, 1]) if depth == 0 else 0.5 if len(fields) == 1 else r.choice([0, 0.1, 0.3, 0.5])
+    for field in r.sample(fields, len(fields)):
+        if r.random() < share and not (depth >= MAX_DEPTH and field.message_type is not None):
+            fill_field(r, message, field, depth)
+
+
+def chain(made, depth):
+    """A tree of so many levels, itself counted."""
+    whole = made()
+    at = whole
+    for level in range(depth - 1):
+        at = getattr(at, ["left", "right"][level % 2])
+        at.SetInParent()
+    at.leaf_name = "leaf"
+    return whole
+
+
+def values(r, types, count):
+    """So many values with the number of their type: of each type in turn, and some trees of all levels."""
+    trees = [made.DESCRIPTOR.name for made in types].index("Tree")
+    for at in range(count):
+        if at % 500 == 0:
+            yield trees, chain(types[trees], MAX_LEVELS - at // 500 % 40)
+            continue
+        made = types[at % len(types)]()
+        fill(r, made)
+        yield at % len(types), made
+
+
+# The texts that are wanted.
+
+def dumped(plain):
+    """A plain value of JSON: a string with few escapes, a number, a truth value or null."""
+    return json.dumps(plain, ensure_ascii=False)
+
+
+def sorted_keys(told, field):
+    """The keys of a map as `json_format` writes them, by rising key."""
+    kind = field.message_type.fields_by_name["key"]
+    if kind.type == kind.TYPE_STRING:
+        return sorted(told, key=str.encode)
+    return sorted(told, key=["false", "true"].index if kind.type == kind.TYPE_BOOL else int)
+
+
+def written_item(told, message_type):
+    """One value of a field as `json_format` tells it."""
+    if message_type is None or message_type.file.name == WRAPPERS:
+        return dumped(told)
+    return written_message(told, message_type)
+
+
+def written_field(told, field):
+    if is_map(field):
+        value = field.message_type.fields_by_name["value"]
+        return "{" + ",".join(f"{dumped(key)}:{written_item(told[key], value.message_type)}" for key in sorted_keys(told, field)) + "}"
+    if field.label == field.LABEL_REPEATED:
+        return "[" + ",".join(written_item(one, field.message_type) for one in told) + "]"
+    return written_item(told, field.message_type)
+
+
+def written_message(told, message_type):
+    by_json = {field.json_name: field for field in message_type.fields}
+    assert len(by_json) == len(message_type.fields)
+    members = sorted((by_json[name].number, name) for name in told)
+    return "{" + ",".join(f"{dumped(name)}:{written_field(told[name], by_json[name])}" for _, name in members) + "}"
+
+
+def wanted_text(message):
+    return written_item(json_format.MessageToDict(message), message.DESCRIPTOR)
+
+
+def has_presence(field):
+    return field.containing_oneof is not None or (field.message_type is not None and field.label != field.LABEL_REPEATED)
+
+
+def wanted_part(message, field):
+    """The text of one field: the default that `json_format` tells where absence is the default, else null."""
+    if message.DESCRIPTOR.file.name == WRAPPERS:
+        return wanted_text(message)
+    told = json_format.MessageToDict(message)
+    if field.json_name not in told:
+        if has_presence(field):
+            return "null"
+        told = json_format.MessageToDict(message, **{WITH_DEFAULTS: True})
+    return written_field(told[field.json_name], field)
+
+
+# The comparison.
+
+def asked_of(r, types, count):
+    """The lines that are asked, with the value, the field or None, and the wanted text of each."""
+    for number, value in values(r, types, count):
+        data = value.SerializeToString().hex() or "-"
+        yield f"show {number} {data}", value, None, wanted_text(value)
+        field = r.choice(list(value.DESCRIPTOR.fields))
+        yield f"part {number} {field.number} {data}", value, field, wanted_part(value, field)
+
+
+def reads_back(text, value):
+    """Python reads the text as the value again."""
+    try:
+        return json_format.Parse(text, type(value)()) == value
+    except json_format.ParseError:
+        return False
+
+
+def differs(asked, given):
+    """What is wrong with an answer, or None."""
+    line, value, field, wanted = asked
+    if given != wanted.encode():
+        return f"{line}: {given!r}, Python {wanted.encode()!r}"
+    if field is None and not reads_back(given.decode(), value):
+        return f"{line}: Python reads {given!r} otherwise"
+    return None
+
+
+def untold_fields(asked):
+    """Fields that are not asked alone both where they are set and where they are absent."""
+    told = {(field.full_name, field.name in [one.name for one, _ in value.ListFields()]) for _, value, field, _ in asked if field is not None}
+    return sorted({name for name, _ in told if not {(name, True), (name, False)} <= told})
+
+
+def set_differs(data):
+    if (ROOT / "crates/json_values/stdin").read_text().partition("\n")[0] == data.hex():
+        return False
+    print("the first line of crates/json_values/stdin is another set than what protoc writes of scripts/values.proto")
+    return True
+
+
+def main():
+    include = google_api()
+    if include is None or shutil.which("protoc") is None:
+        print("missing: protoc, or google/api/annotations.proto")
+        return 77
+    data = values_set(include)
+    if sys.argv[1:] == ["--set"]:
+        print(data.hex())
+        return 0
+    program = sys.argv[1] if len(sys.argv) > 1 else built("json_values")
+    count = int(sys.argv[2]) if len(sys.argv) > 2 else 20_000
+    r = random.Random(int(sys.argv[3]) if len(sys.argv) > 3 else 8259)
+    asked = list(asked_of(r, types_of(data), count))
+    lines = "".join(f"{line}\n" for line, *_ in asked)
+    run = subprocess.run([program], input=f"{data.hex()}\n{lines}".encode(), capture_output=True)
+    told = run.stdout.split(b"\n")[:-1]
+    if run.returncode or len(told) != len(asked):
+        sys.exit(f"status {run.returncode}, {len(told)} lines of {len(asked)}: {run.stderr.decode()[-500:]}")
+    wrong = [one for one in map(differs, asked, told) if one is not None]
+    for one in wrong[:20]:
+        print(one, file=sys.stderr)
+    untold = untold_fields(asked)
+    print(f"{count} values, {sum(map(len, told))} bytes of text, {len(wrong)} otherwise than Python, {len(untold)} fields not told", *untold)
+    return 1 if wrong or untold or set_differs(data) else 0
+
+
+if __name__ == "__main__":
+    sys.exit(main())
