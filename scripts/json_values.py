@@ -1,9 +1,15 @@
 #!/usr/bin/env python3
-"""Compares the texts that values have with those of Python's protobuf, on random values of scripts/values.proto.
+"""Compares how values are written in JSON, and how JSON is read as values, with Python's protobuf, on random values of
+scripts/values.proto.
 
-Python makes a value and writes its bytes. The program prints its text, and the text of one of its fields: both are
-byte for byte what Python's `json_format` says of it, and `json_format` reads the text of the whole as the same value.
-Where ProtoJSON leaves the form open, the program's differs from that of `json_format`, and the wanted text is put so:
+Python makes a value. The program prints its text, and the text of one of its fields: both are byte for byte what Python's
+`json_format` says of it, and `json_format` reads the text of the whole as the same value. The program reads what
+`json_format` writes of it, in each of its forms, and other spellings of the same (scripts/json_spellings.py), which
+`json_format` reads too, as the same value; and the text of the one field as the message with that field alone. A text with
+one fault is refused with the name and the place of this fault, and Python refuses it. What is wanted otherwise than
+`json_format` does it stands by name in scripts/json_spellings.py, with examples that are read on both sides.
+
+Where ProtoJSON leaves the form open, what is written differs from that of `json_format`, and the wanted text is put so:
 
 - no white space, where `json_format` writes a blank behind each comma and colon;
 - members by rising field number, as `json_format` has them;
@@ -41,6 +47,7 @@ except ImportError:
 ROOT = pathlib.Path(__file__).resolve().parent.parent
 
 sys.path.insert(0, str(ROOT / "scripts"))
+from json_spellings import DIFFERENCES, respelled, spoiled  # noqa: E402
 from program import built  # noqa: E402
 from protoc_set import google_api  # noqa: E402
 
@@ -258,36 +265,86 @@ def wanted_part(message, field):
 
 # The comparison.
 
-def asked_of(r, types, count):
-    """The lines that are asked, with the value, the field or None, and the wanted text of each."""
-    for number, value in values(r, types, count):
-        data = value.SerializeToString().hex() or "-"
-        yield f"show {number} {data}", value, None, wanted_text(value)
-        field = r.choice(list(value.DESCRIPTOR.fields))
-        yield f"part {number} {field.number} {data}", value, field, wanted_part(value, field)
+class Asked:
+    """A line, its wanted answer, and what Python is asked beside it, which tells what is wrong or None."""
+
+    def __init__(self, verb, number, word, wanted, python=None, part=None):
+        self.line = " ".join([verb, str(number), *([str(part[1].number)] if part else []), word or "-"])
+        self.wanted, self.python, self.part = wanted, python, part
+
+    def differs(self, given):
+        """What is wrong with an answer, or None."""
+        if given != self.wanted.encode():
+            return f"{self.line}: {given!r}, wanted {self.wanted.encode()!r}"
+        told = self.python and self.python(given.decode())
+        return told and f"{self.line}: {told}"
 
 
-def reads_back(text, value):
-    """Python reads the text as the value again."""
+def canonical(value):
+    return value.SerializeToString(deterministic=True).hex() or "-"
+
+
+def read_by_python(text, made):
+    """The canonical bytes of what Python reads of a text as a message of a class, or None where it refuses, in whatever way."""
     try:
-        return json_format.Parse(text, type(value)()) == value
-    except json_format.ParseError:
-        return False
+        return canonical(json_format.Parse(text, made()))
+    except (json_format.ParseError, TypeError, ValueError, AttributeError, OverflowError):
+        return None
 
 
-def differs(asked, given):
-    """What is wrong with an answer, or None."""
-    line, value, field, wanted = asked
-    if given != wanted.encode():
-        return f"{line}: {given!r}, Python {wanted.encode()!r}"
-    if field is None and not reads_back(given.decode(), value):
-        return f"{line}: Python reads {given!r} otherwise"
-    return None
+def python_reads(text, made, wanted):
+    """Asks that Python reads a text so, or refuses it where None is wanted."""
+    def told(given):
+        read = read_by_python(given if text is None else text, made)
+        return None if read == wanted else f"Python reads it as {read}, wanted {wanted}"
+    return told
+
+
+def alone(value, field):
+    """The message with one field of a value."""
+    out = type(value)()
+    out.CopyFrom(value)
+    for one, _ in value.ListFields():
+        if one.number != field.number:
+            out.ClearField(one.name)
+    return out
+
+
+def python_text(r, value):
+    """A text of a value by Python, in one of its forms."""
+    options = ["preserving_proto_field_name", "use_integers_for_enums", "sort_keys", "ensure_ascii", WITH_DEFAULTS]
+    return json_format.MessageToJson(value, indent=r.choice([None, 0, 2]), **{option: r.random() < 0.5 for option in options})
+
+
+def asked_of(r, types, count):
+    """What is asked of random values: how each is written, and one of its fields; how what Python writes of it is read, and
+    other spellings of it, and one field alone; and a text with a fault."""
+    for number, value in values(r, types, count):
+        made, data = type(value), value.SerializeToString().hex()
+        field = r.choice(list(value.DESCRIPTOR.fields))
+        part = wanted_part(value, field)
+        yield Asked("show", number, data, wanted_text(value), python_reads(None, made, canonical(value)))
+        yield Asked("part", number, data, part, part=(value, field))
+        yield Asked("read", number, python_text(r, value).encode().hex(), canonical(value))
+        yield Asked("read_part", number, part.encode().hex(), canonical(alone(value, field)), part=(value, field))
+        text = respelled(r, value)
+        yield Asked("read", number, text.encode().hex(), canonical(value), python_reads(text, made, canonical(value)))
+        wrong = spoiled(r, value)
+        if wrong is not None:
+            yield Asked("read", number, wrong[0].encode().hex(), wrong[1], python_reads(wrong[0], made, None))
+
+
+def differences_asked(types):
+    """The texts that are read otherwise than by Python, which must be read so by both."""
+    for examples in DIFFERENCES.values():
+        for number, text, wanted, python in examples:
+            assert wanted != python
+            yield Asked("read", number, text.encode().hex(), wanted, python_reads(text, types[number], python))
 
 
 def untold_fields(asked):
     """Fields that are not asked alone both where they are set and where they are absent."""
-    told = {(field.full_name, field.name in [one.name for one, _ in value.ListFields()]) for _, value, field, _ in asked if field is not None}
+    told = {(field.full_name, field.name in [one.name for one, _ in value.ListFields()]) for value, field in (one.part for one in asked if one.part)}
     return sorted({name for name, _ in told if not {(name, True), (name, False)} <= told})
 
 
@@ -310,17 +367,18 @@ def main():
     program = sys.argv[1] if len(sys.argv) > 1 else built("json_values")
     count = int(sys.argv[2]) if len(sys.argv) > 2 else 20_000
     r = random.Random(int(sys.argv[3]) if len(sys.argv) > 3 else 8259)
-    asked = list(asked_of(r, types_of(data), count))
-    lines = "".join(f"{line}\n" for line, *_ in asked)
+    types = types_of(data)
+    asked = [*asked_of(r, types, count), *differences_asked(types)]
+    lines = "".join(f"{one.line}\n" for one in asked)
     run = subprocess.run([program], input=f"{data.hex()}\n{lines}".encode(), capture_output=True)
     told = run.stdout.split(b"\n")[:-1]
     if run.returncode or len(told) != len(asked):
         sys.exit(f"status {run.returncode}, {len(told)} lines of {len(asked)}: {run.stderr.decode()[-500:]}")
-    wrong = [one for one in map(differs, asked, told) if one is not None]
+    wrong = [one for one in map(Asked.differs, asked, told) if one is not None]
     for one in wrong[:20]:
-        print(one, file=sys.stderr)
+        print(one[:1_000], file=sys.stderr)
     untold = untold_fields(asked)
-    print(f"{count} values, {sum(map(len, told))} bytes of text, {len(wrong)} otherwise than Python, {len(untold)} fields not told", *untold)
+    print(f"{count} values, {len(asked)} lines, {len(DIFFERENCES)} known differences, {len(wrong)} lines otherwise than wanted, {len(untold)} fields not told", *untold)
     return 1 if wrong or untold or set_differs(data) else 0
 
 

@@ -21,6 +21,12 @@ ROWS = [
     ("books encoded", "encode"),
     ("header blocks of Huffman-coded values", "huffman"),
     ("header blocks of indexed fields", "indexed"),
+    ("JSON of books of 1 KB, tokens alone", "json-tokens-small"),
+    ("JSON of books of 1 KB, read as values", "json-read-small"),
+    ("JSON of books of 1 KB, written of values", "json-show-small"),
+    ("JSON of books of 64 KB, tokens alone", "json-tokens-large"),
+    ("JSON of books of 64 KB, read as values", "json-read-large"),
+    ("JSON of books of 64 KB, written of values", "json-show-large"),
 ]
 
 

@@ -21,8 +21,8 @@ use Rattle.linked_api.specs.LinkedExamples.{type_at}
 use Rattle.linked_api.specs.SmallApi.{get_item}
 use Rattle.message_types.specs.declared.fields.Scalar.{Scalar}
 use Rattle.message_types.specs.declared.fields.Scalar.TheVariants.{Int32, Text as TextOf, Enumeration}
-use Rattle.protojson_read.specs.ScalarTexts.{IsScalarText}
-use Rattle.protojson_read.specs.declared.fault.ScalarFault.TheVariants as faults
+use Rattle.scalar_texts.specs.ScalarTexts.{IsScalarText}
+use Rattle.scalar_texts.specs.declared.fault.ScalarFault.TheVariants as faults
 use Rattle.schema.specs.declared.value.Item.{Item, Number, Text, out-Item}
 use Rattle.schema.specs.declared.value.Item.TheVariants.{outs-Number, outs-Text}
 use Rattle.schema.specs.declared.value.Slot.{One}

@@ -21,7 +21,7 @@ use Rattle.message_types.specs.declared.fields.Shape.TheVariants.{Single, Member
 use Rattle.message_types.specs.declared.messages.TypeId.{TypeId}
 use Rattle.message_types.specs.declared.messages.Types.{Types}
 use Rattle.path_router.specs.declared.captures.Span.{Span}
-use Rattle.protojson_read.specs.ScalarTexts.{IsScalarText}
+use Rattle.scalar_texts.specs.ScalarTexts.{IsScalarText}
 use Rattle.schema.specs.Layers.{ItemLayer}
 use Rattle.schema.specs.Validity.{Inner, IsItem, IsScalarItem, valid_within}
 use Rattle.schema.specs.declared.value.Item.{Item, out-Item}

@@ -22,9 +22,9 @@ use Rattle.message_types.specs.declared.fields.Scalar.{Scalar}
 use Rattle.message_types.specs.declared.messages.TypeId.{TypeId}
 use Rattle.message_types.specs.declared.messages.Types.{Types}
 use Rattle.path_router.specs.declared.captures.Span.{Span}
-use Rattle.protojson_read.specs.ScalarTexts.{IsScalarReading, IsScalarText, IsScalarTextFault}
-use Rattle.protojson_read.specs.declared.fault.ScalarFault.{ScalarFault}
-use Rattle.protojson_read.specs.declared.fault.ScalarFault.TheVariants as faults
+use Rattle.scalar_texts.specs.ScalarTexts.{IsScalarReading, IsScalarText, IsScalarTextFault}
+use Rattle.scalar_texts.specs.declared.fault.ScalarFault.{ScalarFault}
+use Rattle.scalar_texts.specs.declared.fault.ScalarFault.TheVariants as faults
 use Rattle.schema.specs.declared.value.Item.{Item, out-Item}
 use Rattle.schema.specs.declared.value.Slot.{One}
 

@@ -1,5 +1,5 @@
 pub use Rattle.field_settings.specs.AppliedSettings
-pub use Rattle.protojson_read.specs.ScalarTexts
+pub use Rattle.scalar_texts.specs.ScalarTexts
 pub mod Assignments
 pub mod PathSettings
 pub mod ValueFaults

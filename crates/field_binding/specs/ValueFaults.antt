@@ -6,8 +6,8 @@ use Rattle.field_binding.specs.declared.fault.BindFault.TheVariants.{Path, NoMem
 use Rattle.field_binding.specs.declared.fault.ValueFault.{ValueFault}
 use Rattle.field_binding.specs.declared.fault.ValueFault.TheVariants.{Wrong, NoMemory}
 use Rattle.field_binding.specs.declared.fault.ValueKind.TheVariants as kinds
-use Rattle.protojson_read.specs.declared.fault.ScalarFault.{ScalarFault}
-use Rattle.protojson_read.specs.declared.fault.ScalarFault.TheVariants as scalars
+use Rattle.scalar_texts.specs.declared.fault.ScalarFault.{ScalarFault}
+use Rattle.scalar_texts.specs.declared.fault.ScalarFault.TheVariants as scalars
 
 -- the fault of a value whose text has this fault
 abbrev pub value_fault : ScalarFault → ValueFault

@@ -3,7 +3,7 @@ ghost use Rattle.std.specs.Prelude.{◌≡◌};
 ghost use Rattle.field_binding.specs.ValueFaults.{fault_of_variable};
 
 use base::NoMemory;
-use protojson_read::ScalarFault;
+use scalar_texts::ScalarFault;
 
 /// What is wrong with the value of a variable.
 #[derive(Debug, Clone, Copy, PartialEq, Eq)]

@@ -17,7 +17,7 @@ pub fn one_path_binding()
         → IsPathBinding api index path spans r → IsPathBinding api index path spans s
         → r ≢ Err no_memory → s ≢ Err no_memory → r ≡ s }
 {
-    protojson_read::laws::one_reading_of_a_text();
+    scalar_texts::laws::one_reading_of_a_text();
 }
 
 /// Each path is bound, or a variable of it is at fault.
@@ -27,7 +27,7 @@ pub fn each_path_is_bound()
         → (r : Result Assignments BindFault) × IsPathBinding api index path spans r × (r ≢ Err no_memory) }
 {
     linked_api::laws::bindings_are_servable();
-    protojson_read::laws::every_text_is_read();
+    scalar_texts::laws::every_text_is_read();
 }
 
 /// A request has one message.
@@ -52,7 +52,7 @@ pub fn path_bindings_are_overlays()
         → IsPathBinding api index path spans (Ok a) → IsOverlayOf api index a }
 {
     linked_api::laws::bindings_are_servable();
-    protojson_read::laws::readings_are_scalars();
+    scalar_texts::laws::readings_are_scalars();
 }
 
 /// A router can be built of the bindings of a linked API.

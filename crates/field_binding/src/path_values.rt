@@ -5,7 +5,7 @@ ghost use Rattle.field_binding.specs.PathSettings.{AreCapturesOf, BindsScalars, 
 ghost use Rattle.http_rules.specs.Template.{IsTemplate};
 ghost use Rattle.linked_api.specs.LinkedApi.{IsLinked};
 ghost use Rattle.message_types.specs.declared.fields.Scalar.TheVariants.{Bytes, Text as text_kind};
-ghost use Rattle.protojson_read.specs.ScalarTexts.{IsScalarReading};
+ghost use Rattle.scalar_texts.specs.ScalarTexts.{IsScalarReading};
 
 use crate::calls::call_of;
 use crate::fault::{BindFault, ValueFault, ValueKind};
@@ -16,7 +16,7 @@ use field_settings::Setting;
 use http_rules::{Binding, capture};
 use linked_api::Api;
 use path_router::Captures;
-use protojson_read::{ScalarFault, read_scalar};
+use scalar_texts::{ScalarFault, read_scalar};
 use schema::{Item, Kind, Scalar, Slot, TypeId, Types};
 use std::alloc::Global;
 

@@ -6,6 +6,7 @@ pub mod ToldFiles
 pub mod Sinks
 pub mod Policies
 pub mod Refusals
+pub mod MessageHead
 pub mod NumberedCalls
 pub mod FixedRoom
 pub mod FixedOutside

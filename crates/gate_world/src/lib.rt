@@ -6,6 +6,7 @@
 //! `Failed` only where its count rose. Begin with `Source` and `Sink`.
 #![tactic(auto)]
 
+mod body_length;
 pub mod examples;
 mod files;
 mod in_memory;
@@ -16,6 +17,7 @@ mod source;
 mod value_fault;
 mod writing;
 
+pub use body_length::BodyLength;
 pub use files::Files;
 pub use in_memory::{FixedFiles, FixedSink, FixedSource, NamedBytes};
 pub use policy::{NoFields, Policy};

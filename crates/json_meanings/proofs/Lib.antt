@@ -37,3 +37,5 @@ pub mod SpotValidLemmas
 -- A value that is read of a tree is valid (`read_values_are_valid`), and the strings of a text's tree are UTF-8.
 pub mod TreeValidLemmas
 pub mod Utf8Lemmas
+-- Types that are written by their fields alone (`types_by_fields_have_no_texts`).
+pub mod TextTypeLemmas

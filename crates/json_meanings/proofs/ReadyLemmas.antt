@@ -24,7 +24,8 @@ use Rattle.json_events.specs.JsonNumbers.{IsNumber}
 use Rattle.json_events.specs.JsonTree.{Json, Mark, literal, number, string, object, no_pairs, digits, text, name}
 use Rattle.json_events.specs.declared.state.Name.TheVariants as names
 use Rattle.json_meanings.specs.FaultPlaces.{at_once, behind, onward}
-use Rattle.json_meanings.specs.FirstLaws.{HasTexts, IsTextType}
+use Rattle.json_meanings.specs.FirstLaws.{HasTexts}
+use Rattle.json_meanings.specs.TextTypes.{IsTextType}
 use Rattle.json_meanings.specs.JsonDenotes.{members, object_value, value}
 use Rattle.json_meanings.specs.JsonScalars.{Schema, scalar_as, text_as}
 use Rattle.json_meanings.specs.PartialMessages.{FieldForm, as_key, empty_message, form_of, has_room, key_of, put_field, stored, unless_there, value_of}

@@ -18,7 +18,7 @@ use Rattle.schema.specs.declared.value.Item.TheOpen.{Message}
 use Rattle.schema.specs.declared.value.Value.{Value}
 use Rattle.json_events.specs.JsonTree.{Mark, digits, text, name, opens, closes, comma, colon, key}
 use Rattle.json_events.specs.declared.state.Name.TheVariants as names
-use Rattle.json_meanings.specs.FirstLaws.{IsTextType}
+use Rattle.json_meanings.specs.TextTypes.{IsTextType}
 use Rattle.json_meanings.specs.JsonScalars.{IsNumberKind, Schema, scalar_as}
 use Rattle.json_meanings.specs.PartialMessages.{FieldForm, PartialMessage, empty_message, form_of, is_taken, put_field, stored, value_of}
 use Rattle.json_meanings.specs.ReadingSpots.{Filled, many, pairs, single, unset}

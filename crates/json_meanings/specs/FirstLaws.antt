@@ -1,8 +1,6 @@
 -- The token with the first fault is the first such that the tokens up to it begin no accepted value.
 use Rattle.std.specs.Prelude.{◌≡◌, ◌+◌, ◌++◌, ℕ, List, take, Option, Ok}
 use Rattle.std.specs.Str.{IsUtf8}
-use Rattle.message_types.specs.declared.messages.Known.{Known}
-use Rattle.message_types.specs.declared.messages.Known.TheVariants.{Plain, Wrapper}
 use Rattle.message_types.specs.declared.messages.TypeId.{TypeId}
 use Rattle.schema.specs.declared.value.Value.{Value}
 use Rattle.json_events.specs.JsonText.{IsTextOf}
@@ -12,12 +10,7 @@ use Rattle.json_meanings.specs.FieldFaults.{BeginsValue, tree_tokens}
 use Rattle.json_meanings.specs.JsonDenotes.{reading}
 use Rattle.json_meanings.specs.JsonScalars.{Schema}
 use Rattle.json_meanings.specs.SpotTables.{known_of}
-
--- the well-known type is written as a text
-abbrev pub IsTextType : Known → Type 0
-IsTextType Plain = ⊥
-IsTextType Wrapper = ⊥
-IsTextType _ = Unit {0}
+use Rattle.json_meanings.specs.TextTypes.{IsTextType}
 
 -- each type that is written as a text has a lawful one, in UTF-8
 abbrev pub HasTexts : Schema → Type 0

@@ -22,6 +22,7 @@ pub mod FieldFaults
 pub mod ReadingTurns
 pub mod ReadingLaws
 pub mod ScalarLaws
+pub mod TextTypes
 pub mod FirstLaws
 pub mod TokenNesting
 pub mod ValidLaws

@@ -5,7 +5,7 @@ use Rattle.message_types.specs.declared.messages.TypeId.{TypeId}
 use Rattle.schema.specs.Validity.{valid_within}
 use Rattle.schema.specs.declared.value.Value.{Value}
 use Rattle.json_events.specs.JsonTree.{Json, Items, Pairs, Mark, literal, number, string, array, object, no_items, item, no_pairs, pair, key, text}
-use Rattle.json_meanings.specs.FirstLaws.{IsTextType}
+use Rattle.json_meanings.specs.TextTypes.{IsTextType}
 use Rattle.json_meanings.specs.JsonScalars.{Schema}
 use Rattle.json_meanings.specs.SpotTables.{known_of}
 

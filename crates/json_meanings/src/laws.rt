@@ -4,6 +4,7 @@ ghost use Rattle.std.specs.List.{AllByRecursion};
 ghost use Rattle.base64.specs.GeneralPurpose.{IsBytes};
 ghost use Rattle.message_types.specs.declared.fields.Scalar.{Scalar};
 ghost use Rattle.message_types.specs.declared.messages.TypeId.{TypeId};
+ghost use Rattle.message_types.specs.declared.messages.Types.{Types};
 ghost use Rattle.schema.specs.Soundness.{IsSound};
 ghost use Rattle.schema.specs.Validity.{IsValid};
 ghost use Rattle.schema.specs.declared.value.Value.{Value};
@@ -19,6 +20,8 @@ ghost use Rattle.json_meanings.specs.ReadingLaws.{ReadingLawsHold};
 ghost use Rattle.json_meanings.specs.JsonDenotes.{Denotes};
 ghost use Rattle.json_meanings.specs.ScalarLaws.{NumberLawsHold, RangeLawsHold};
 ghost use Rattle.json_meanings.specs.SpelledBytes.{spelled_bytes};
+ghost use Rattle.json_meanings.specs.SpotTables.{known_of};
+ghost use Rattle.json_meanings.specs.TextTypes.{AreByFields, IsTextType};
 ghost use Rattle.json_meanings.specs.TokenNesting.{NestingLawsHold};
 ghost use Rattle.json_meanings.specs.ValidLaws.{GivesValid, HasUtf8, MarkIsUtf8};
 
@@ -106,3 +109,8 @@ pub fn read_values_are_valid()
     numbers_are_read_exactly();
     texts_mean_one_value();
 }
+
+/// Types are written by their fields alone exactly where none of them is written as a text.
+pub fn types_by_fields_have_no_texts()
+    ensures { (types : Types) → AreByFields types ↔ ((id : TypeId) → IsTextType (known_of types id) → ⊥) }
+{}

@@ -1,18 +1,23 @@
-//! Prints the texts that values have in JSON (the ProtoJSON guide), over the types of a descriptor set.
+//! Prints the texts that values have in JSON, and the values that texts of JSON mean (the ProtoJSON guide), over the
+//! types of a descriptor set.
 //!
 //! The first line of the input is a descriptor set, as a word of bytes. Each line behind it is answered by one:
 //!
 //! - `show N BYTES`: the text of what the bytes are as a message of the input type of the set's N-th bound method,
 //!   counted from 0;
-//! - `part N FIELD BYTES`: the text of its field with this number.
+//! - `part N FIELD BYTES`: the text of its field with this number;
+//! - `read N TEXT`: the canonical bytes, in hexadecimal, of the message of that type that the text means;
+//! - `read_part N FIELD TEXT`: those of the message with the one field of this number, whose value the text means.
 //!
-//! A value without a text is answered by the name of the fault, bytes that are no message by what is wrong with them.
+//! A value without a text is answered by the name of the fault, bytes that are no message by what is wrong with them,
+//! and a text that means no value by the name of its first fault and the place of that.
 //! Lines that are empty or begin with `#` are left out. A set that is not served, or that has a timestamp, a duration
 //! or a field mask, is answered by `no set` alone.
 #![tactic(auto)]
 
-mod by_fields;
+mod reading;
 mod served;
+mod showing;
 mod telling;
 
 use rows::bytes_of;

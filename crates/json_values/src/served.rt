@@ -1,10 +1,10 @@
 //! A descriptor set whose values have texts.
 ghost use Rattle.std.specs.Prelude.{IfSome};
 ghost use Rattle.linked_api.specs.LinkedApi.{IsLinked};
-ghost use Rattle.protojson_write.specs.KnownParts.{AreByFields};
+ghost use Rattle.json_meanings.specs.TextTypes.{AreByFields};
 
-use crate::by_fields::are_by_fields;
 use descriptor_set::read_set;
+use json_meanings::are_by_fields;
 use linked_api::Api;
 use schema_link::link;
 use std::alloc::Global;

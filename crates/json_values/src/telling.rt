@@ -1,75 +1,16 @@
 //! The answers to lines.
-ghost use Rattle.std.specs.Prelude.{IfOk};
+ghost use Rattle.std.specs.Prelude.{◌≡◌};
 ghost use Rattle.linked_api.specs.LinkedApi.{IsLinked};
-ghost use Rattle.protojson_write.specs.KnownParts.{AreByFields};
-ghost use Rattle.schema.specs.Validity.{IsValid};
+ghost use Rattle.json_meanings.specs.TextTypes.{AreByFields};
 
+use crate::reading::put_reading;
+use crate::showing::put_text;
+use field_index::IndexedTypes;
 use linked_api::Api;
-use protojson_write::{ShowFault, show};
 use rows::Row;
-use schema::{TypeId, Value};
+use schema::TypeId;
 use std::alloc::Global;
 use std::io::{self, BufRead, BufReader, Read, Write};
-use wire_format::{DecodeFault, decode, laws};
-
-/// The most bytes that a text has: 1 MiB.
-const MAX_TEXT_BYTES: u64 = 1_048_576;
-
-/// The value that bytes are as a message of a type, or the first fault.
-fn value_of(alloc: Global, api: &Api, id: TypeId, bytes: &[u8]) -> Result<Value, DecodeFault>
-    requires { IsLinked api.now }
-    ensures { IfOk result (λ value. IsValid api.now.types id value) }
-{
-    laws::sound_types_have_sound_fields();
-    decode(alloc, &api.types, id, bytes)
-}
-
-/// Appends what is wrong with bytes.
-fn put_decode_fault(alloc: Global, out: &mut Vec<u8>, fault: DecodeFault) -> io::Result<()> {
-    let told = match fault {
-        DecodeFault::Wire(fault) => {
-            let (kind, place) = (fault.kind, fault.place);
-            format!(in alloc; "{kind:?} {place}")?
-        }
-        DecodeFault::NotUtf8(place) => format!(in alloc; "NotUtf8 {place}")?,
-        DecodeFault::NoMemory => return Err(io::Error::from(io::ErrorKind::OutOfMemory)),
-    };
-    out.extend_from_slice(told.as_bytes())?;
-    Ok(())
-}
-
-/// Appends the name of a fault.
-fn put_show_fault(out: &mut Vec<u8>, fault: ShowFault) -> io::Result<()> {
-    let name = match fault {
-        ShowFault::Unprintable => "Unprintable",
-        ShowFault::TooLong => "TooLong",
-        ShowFault::NoMemory => return Err(io::Error::from(io::ErrorKind::OutOfMemory)),
-    };
-    out.extend_from_slice(name.as_bytes())?;
-    Ok(())
-}
-
-/// Appends the text of what bytes are as a message of a type, or of one field of it.
-fn put_text(
-    alloc: Global,
-    api: &Api,
-    out: &mut Vec<u8>,
-    id: TypeId,
-    part: Option<u32>,
-    bytes: &[u8],
-) -> io::Result<()>
-    requires linked { IsLinked api.now }
-    requires types { AreByFields api.now.types }
-{
-    let value = match value_of(alloc, api, id, bytes) {
-        Ok(value) => value,
-        Err(fault) => return put_decode_fault(alloc, out, fault),
-    };
-    match show(&api.types, id, part, &value, MAX_TEXT_BYTES, out) {
-        Ok(()) => Ok(()),
-        Err(fault) => put_show_fault(out, fault),
-    }
-}
 
 /// The input type of the bound method that the next word numbers.
 fn next_type(api: &Api, row: &mut Row) -> io::Result<TypeId> {
@@ -80,24 +21,27 @@ fn next_type(api: &Api, row: &mut Row) -> io::Result<TypeId> {
 }
 
 /// Appends the answer to a line.
-fn put_answer(alloc: Global, api: &Api, out: &mut Vec<u8>, row: &mut Row) -> io::Result<()>
+fn put_answer(
+    alloc: Global,
+    api: &Api,
+    types: &IndexedTypes<'_>,
+    out: &mut Vec<u8>,
+    row: &mut Row,
+) -> io::Result<()>
     requires linked { IsLinked api.now }
     requires types { AreByFields api.now.types }
+    requires indexed { types.now ≡ api.now.types }
 {
     let id = next_type(api, row)?;
-    match row.label() {
-        "show" => put_text(alloc, api, out, id, None, row.bytes(alloc)?.as_slice()),
-        "part" => {
-            let field = row.number_u32()?;
-            put_text(
-                alloc,
-                api,
-                out,
-                id,
-                Some(field),
-                row.bytes(alloc)?.as_slice(),
-            )
-        }
+    let verb = row.label();
+    let part = match verb {
+        "part" | "read_part" => Some(row.number_u32()?),
+        _ => None,
+    };
+    let bytes = row.bytes(alloc)?;
+    match verb {
+        "show" | "part" => put_text(alloc, api, types, out, id, part, bytes.as_slice()),
+        "read" | "read_part" => put_reading(alloc, api, types, out, id, part, bytes.as_slice()),
         _ => Err(io::Error::from(io::ErrorKind::InvalidData)),
     }
 }
@@ -112,13 +56,16 @@ pub(crate) fn tell_lines<R: Read + Drop, W: Write>(
     requires linked { IsLinked api.now }
     requires types { AreByFields api.now.types }
 {
+    let Ok(types) = IndexedTypes::new(alloc, &api.types) else {
+        return Err(io::Error::from(io::ErrorKind::OutOfMemory));
+    };
     for line in input.lines(alloc) {
         let line = line?;
         if line.is_empty() || line.starts_with('#') {
             continue;
         }
         let mut answer = Vec::new(alloc);
-        put_answer(alloc, api, &mut answer, &mut Row::of(line.as_str()))?;
+        put_answer(alloc, api, &types, &mut answer, &mut Row::of(line.as_str()))?;
         answer.push(b'\n')?;
         out.write_all(answer.as_slice())?;
     }

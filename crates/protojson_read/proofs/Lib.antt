@@ -1,12 +1,5 @@
--- What is found of a text is what the definitions say, and a text has one reading (`read_scalar`,
--- `one_reading_of_a_text`, `items_and_faults_are_apart`).
-pub mod ReadingLemmas
--- A text is read as a key exactly as it is by itself (`keys_are_read_as_texts`).
-mod KeyLemmas
--- Each text means an item, or there is something wrong with it (`every_text_is_read`).
-pub mod EachReading
--- UTF-8 and base64 are bytes (`every_text_is_read`, `keys_are_read_as_texts`).
-mod TextBytes
+-- A number of a kind has its value in 128 bits too (`Builder`).
+pub mod NumberLemmas
 -- What is read of a text by itself is what a token with it means (`Builder`).
 pub mod TokenLemmas
 -- What a builder keeps is what the turns over its tokens come to (`Builder`).
@@ -16,5 +9,11 @@ pub mod EntryLemmas
 -- Types without text types are read alike, whatever texts mean (`types_without_texts_are_read_alike`,
 -- `built_values_are_valid`).
 mod SchemaLemmas
--- One plain type is none that is written as a text (the tests).
-pub mod TestLemmas
+-- A whole body means at most one value or has one fault, and not both (`one_outcome_of_a_text`, `read_body`).
+pub mod BodyLemmas
+-- What has been taken of a body's bytes, call by call (`read_body`).
+pub mod TakenLemmas
+-- Any bytes mean a value, or have a fault (`every_text_has_an_outcome`).
+pub mod EachBody
+-- A fault that is told before bytes end stays, whatever follows (`faults_before_the_end_stay`).
+mod StayLemmas

@@ -3,7 +3,7 @@ use Rattle.std.proofs.Common.{◌≡◌, ◌∙◌, ap, refl, ℕ, List, Option,
 use Rattle.json_events.specs.JsonTree.{Json, Items, Pairs, Mark, literal, number, string, array, object, no_items, item, no_pairs, pair, opens, closes, comma, colon, key, name, digits, text}
 use Rattle.json_events.specs.declared.state.Name.TheVariants as names
 use Rattle.json_meanings.specs.FaultPlaces.{Fault, at_once, behind, onward, size}
-use Rattle.json_meanings.specs.FirstLaws.{IsTextType}
+use Rattle.json_meanings.specs.TextTypes.{IsTextType}
 use Rattle.json_meanings.specs.JsonDenotes.{alone, array_with, items, members, object_with, reading, spot_of, value}
 use Rattle.json_meanings.specs.JsonScalars.{Schema}
 use Rattle.json_meanings.specs.PartialMessages.{FieldForm, PartialMessage, empty_message}
@@ -23,7 +23,7 @@ use Rattle.json_meanings.specs.declared.fault.FieldKind.{FieldKind}
 use Rattle.json_meanings.specs.declared.fault.FieldKind.TheVariants.{BadText}
 use Rattle.message_types.specs.declared.messages.Types.{Types}
 use Rattle.schema.specs.declared.value.Value.{Value}
-use Rattle.protojson_read.specs.ReadTypes.{HasNoTextTypes, types_read}
+use Rattle.protojson_read.specs.ReadTypes.{types_read}
 
 -- what goes on alike comes to the same
 onward_alike : {A B : Type 0} (r : Result A Fault) (f g : A → Result B Fault) → ((a : A) → f a ≡ g a)
@@ -31,7 +31,7 @@ onward_alike : {A B : Type 0} (r : Result A Fault) (f g : A → Result B Fault) 
 onward_alike (Ok a) f g h = h a
 onward_alike (Err e) f g h = refl
 
-module _ (c : Schema) (no_texts : HasNoTextTypes c.types) where
+module _ (c : Schema) (no_texts : (id : TypeId) → IsTextType (known_of c.types id) → ⊥) where
   abbrev d : Schema
   d = types_read c.types
 

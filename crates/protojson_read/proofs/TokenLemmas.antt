@@ -12,12 +12,12 @@ use Rattle.json_meanings.specs.JsonScalars.{IsNumberKind, number_as, text_as}
 use Rattle.json_meanings.specs.ScalarLaws.{NumberLawsHold}
 use Rattle.json_meanings.specs.declared.fault.FieldKind.{FieldKind}
 use Rattle.json_meanings.specs.declared.fault.FieldKind.TheVariants as kinds
-use Rattle.protojson_read.specs.KeyTexts.{KeyLawsHold}
-use Rattle.protojson_read.specs.ScalarMeanings.{IsNumberReading}
-use Rattle.protojson_read.specs.ScalarTexts.{IsScalarReading}
+use Rattle.scalar_texts.specs.KeyTexts.{KeyLawsHold}
+use Rattle.scalar_texts.specs.ScalarMeanings.{IsNumberReading}
+use Rattle.scalar_texts.specs.ScalarTexts.{IsScalarReading}
 use Rattle.protojson_read.specs.TokenAnswers.{Gives, number_fault, text_refusal}
-use Rattle.protojson_read.specs.declared.fault.ScalarFault.{ScalarFault}
-use Rattle.protojson_read.specs.declared.fault.ScalarFault.TheVariants.{BadText, BadNumber, OutOfRange, BadEnum, NotUtf8, NoMemory}
+use Rattle.scalar_texts.specs.declared.fault.ScalarFault.{ScalarFault}
+use Rattle.scalar_texts.specs.declared.fault.ScalarFault.TheVariants.{BadText, BadNumber, OutOfRange, BadEnum, NotUtf8, NoMemory}
 use Rattle.protojson_read.specs.declared.refusal.Refusal.TheVariants.{Fault}
 
 -- a fault that the definitions have too

@@ -14,7 +14,7 @@ form_seen f = record { number = f.number; kind = f.kind; shape = f.shape; presen
 
 -- a message that has begun
 abbrev pub message_seen : PartialMessage → MessageOf
-message_seen m = record { seen = m.seen.items; oneofs = m.oneofs.items; slots = slots_of m.value }
+message_seen m = record { seen = m.seen; oneofs = m.oneofs; slots = slots_of m.value }
 
 -- the entries of a map that is open
 abbrev pub entries_seen : MapEntries → List (Key × Item)

@@ -3,8 +3,8 @@ use Rattle.std.specs.Prelude.{◌≡◌, Result, Ok, Err, ⊤}
 use Rattle.json_meanings.specs.ReadingSpots.{Filled as FilledOf, OpenArray as ArrayOf, OpenObject as ObjectOf, Spot as SpotOf}
 use Rattle.json_meanings.specs.declared.fault.FieldKind.{FieldKind}
 use Rattle.json_meanings.specs.declared.fault.FieldKind.TheVariants as kinds
-use Rattle.protojson_read.specs.declared.fault.ScalarFault.{ScalarFault}
-use Rattle.protojson_read.specs.declared.fault.ScalarFault.TheVariants as scalars
+use Rattle.scalar_texts.specs.declared.fault.ScalarFault.{ScalarFault}
+use Rattle.scalar_texts.specs.declared.fault.ScalarFault.TheVariants as scalars
 use Rattle.protojson_read.specs.SpotsSeen.{array_seen, filled_seen, object_seen, spot_seen}
 use Rattle.protojson_read.specs.declared.refusal.Refusal.{Refusal}
 use Rattle.protojson_read.specs.declared.refusal.Refusal.TheVariants.{Fault, NoMemory}

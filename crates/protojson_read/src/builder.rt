@@ -8,9 +8,10 @@ ghost use Rattle.json_meanings.specs.JsonDenotes.{Denotes, alone, message_in, sp
 ghost use Rattle.json_meanings.specs.ReadingTurns.{Levels as LevelsOf};
 ghost use Rattle.json_meanings.specs.declared.fault.FieldKind.{FieldKind as KindOf};
 ghost use Rattle.json_meanings.specs.JsonScalars.{Schema};
+ghost use Rattle.json_meanings.specs.TextTypes.{AreByFields};
 ghost use Rattle.message_types.specs.declared.messages.TypeId.{TypeId as TypeIdOf};
 ghost use Rattle.protojson_read.specs.BuilderReads.{HasEnded, HoldsValue, IsBehind, IsTokenFault, Keeps, KeepsNext, Reads, fault_by, kept_fault, refusal_of, root_spot};
-ghost use Rattle.protojson_read.specs.ReadTypes.{HasNoTextTypes, types_read};
+ghost use Rattle.protojson_read.specs.ReadTypes.{types_read};
 ghost use Rattle.protojson_read.specs.SpotsSeen.{filled_seen, spot_seen};
 ghost use Rattle.protojson_read.specs.TurnsSeen.{Turns, levels_seen};
 ghost use Rattle.protojson_read.specs.declared.builder.State.TheVariants.{Ended};
@@ -22,10 +23,11 @@ use crate::refusal::Refusal;
 use crate::spots::{Filled, Spot, item_of, slot_of};
 use crate::turns::{Levels, Turn, step};
 use base::NoMemory;
+use field_index::IndexedTypes;
 use json_events::{Spanned, Token};
 use json_meanings::FieldKind;
 use json_meanings::laws::readings_hold;
-use schema::{Item, TypeId, Types, Value, find_field};
+use schema::{Item, TypeId, Value};
 use std::alloc::Global;
 use std::mem;
 
@@ -54,10 +56,10 @@ pub struct Builder {
 }
 
 /// The form of the field with a number, where one is asked for and the type has it.
-fn form_at(types: &Types, id: TypeId, part: Option<u32>) -> Option<FieldForm>
+fn form_at(types: &IndexedTypes<'_>, id: TypeId, part: Option<u32>) -> Option<FieldForm>
     ensures { root_spot id result ≡ spot_of (types_read types.now) id part }
 {
-    match find_field(types.fields(id), part?) {
+    match types.field_by_number(id, part?) {
         Some(field) => Some(form_of(field)),
         None => None,
     }
@@ -137,7 +139,7 @@ fn fault_at(place: u64, refusal: Refusal) -> FieldFault
 #[tactic(auto, using(crate::proofs::BuilderLemmas::taken))]
 fn next_state(
     alloc: Global,
-    types: &Types,
+    types: &IndexedTypes<'_>,
     part: Option<FieldForm>,
     state: State,
     place: u64,
@@ -188,12 +190,12 @@ impl Builder {
     #[tactic(auto, using(crate::proofs::BuilderLemmas::begun))]
     pub fn new(
         alloc: Global,
-        types: &Types,
+        types: &IndexedTypes<'_>,
         id: TypeId,
         part: Option<u32>,
         place: u64,
     ) -> Result<Builder, NoMemory>
-        requires texts { HasNoTextTypes types.now }
+        requires texts { AreByFields types.now }
         ensures reads { IfOk result (λ b. Reads b (types_read types.now) id part place []) }
     {
         let part = form_at(types, id, part);
@@ -211,7 +213,7 @@ impl Builder {
     /// the offset of the token's first byte, added in 64 bits, or the last number of 64 bits where the sum is past it.
     /// What was read is dropped then, and the builder answers the same to every later `take`. `types` are those of
     /// `new`.
-    pub fn take(&mut self, types: &Types, token: Spanned) -> Result<(), FieldFault>
+    pub fn take(&mut self, types: &IndexedTypes<'_>, token: Spanned) -> Result<(), FieldFault>
         ensures ok { (id : TypeIdOf) (n : Option ℕ) (place : ℕ) (ts : List Mark)
             → Reads self.old (types_read types.now) id n place ts
             → IfOk result (λ r. Reads self.new (types_read types.now) id n place (ts ++ mark_seen token.token ∷ [])) }

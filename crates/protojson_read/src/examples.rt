@@ -1,20 +1,19 @@
 //! Worked examples, as laws.
-ghost use Rattle.protojson_read.specs.ScalarExamples.{NumberExamplesHold, OtherKindExamplesHold};
+ghost use Rattle.protojson_read.specs.BodyExamples.{BodyFaultsHold, BodyMeaningsHold};
 
-use json_integers::examples::{integer_examples, other_examples};
+use json_events::laws::written_texts_mean_their_values;
+use json_integers::examples::other_examples;
 
-/// Texts of numbers, in the range of their kind and past it.
-pub fn number_examples()
-    ensures { NumberExamplesHold }
+/// Bodies that mean a value.
+pub fn body_meanings()
+    ensures { BodyMeaningsHold }
 {
-    integer_examples();
-    other_examples();
+    written_texts_mean_their_values();
 }
 
-/// Texts of bools, strings and enums.
-pub fn other_kind_examples()
-    ensures { OtherKindExamplesHold }
+/// Bodies with a fault.
+pub fn body_faults()
+    ensures { BodyFaultsHold }
 {
-    integer_examples();
     other_examples();
 }

@@ -1,23 +1,10 @@
-//! What is wrong with a text, and with a token.
+//! What is wrong with a token, and with a body.
 
+ghost use Rattle.std.specs.Prelude.{◌≡◌};
+ghost use Rattle.protojson_read.specs.declared.fault.BodyFault.TheVariants.{NoMemory as no_memory};
+
+use base::NoMemory;
 use json_meanings::FieldKind;
-
-/// What is wrong with the text of a scalar.
-#[derive(Debug, Clone, Copy, PartialEq, Eq)]
-pub enum ScalarFault {
-    /// It is not that of a bool, or spells no bytes in base64 (RFC 4648, sections 4 and 5).
-    BadText,
-    /// It is not that of an integer.
-    BadNumber,
-    /// It is that of an integer which the kind does not have.
-    OutOfRange,
-    /// It is neither a name of the enum nor a number.
-    BadEnum,
-    /// It is not UTF-8 (RFC 3629).
-    NotUtf8,
-    /// No memory was found for the item, which is a string or bytes. Nothing is wrong with a string's text then.
-    NoMemory,
-}
 
 /// Why a token is refused.
 #[derive(Debug, Clone, Copy, PartialEq, Eq)]
@@ -26,4 +13,24 @@ pub enum FieldFault {
     At(u64, FieldKind),
     /// Out of memory. Whether the token has a fault is not told.
     NoMemory,
+}
+
+/// Why a body is refused.
+#[derive(Debug, Clone, Copy, PartialEq, Eq)]
+pub enum BodyFault {
+    /// The token that begins at this offset, from which on the JSON is no value of the type, and why.
+    Field(u64, FieldKind),
+    /// No text of JSON begins with the bytes up to the one at this offset, and some text begins with those before it;
+    /// at the end, the length of a body that is not whole.
+    Syntax(u64),
+    /// Out of memory. Whether the body has a fault is not told.
+    NoMemory,
+}
+
+impl From<NoMemory> for BodyFault {
+    ghost from_gives = { λ _ f. f ≡ no_memory };
+
+    fn from(_: NoMemory) -> BodyFault {
+        BodyFault::NoMemory
+    }
 }

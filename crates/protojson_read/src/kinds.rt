@@ -15,9 +15,10 @@ use crate::partial_message::{PartialMessage, form_of};
 use crate::refusal::Refusal;
 use crate::scalar_tokens::scalar_as;
 use crate::spots::{Filled, OpenObject, slot_of};
+use field_index::IndexedTypes;
 use json_events::Token;
 use json_meanings::FieldKind;
-use schema::{Field, Item, Kind, Known, Scalar, TypeId, Types, Value, find_field};
+use schema::{Field, Item, Kind, Known, Scalar, TypeId, Types, Value};
 use std::alloc::Global;
 
 /// Which well-known type a message type is.
@@ -64,11 +65,16 @@ fn wrapped(
 }
 
 /// A token as a wrapper, which is written as its value.
-fn wrapper_as(alloc: Global, types: &Types, id: TypeId, token: Token) -> Result<Value, Refusal>
+fn wrapper_as(
+    alloc: Global,
+    types: &IndexedTypes<'_>,
+    id: TypeId,
+    token: Token,
+) -> Result<Value, Refusal>
     ensures { GivesValue result
         (wrapper_as (types_read types.now) (field_in (fields_of types.now id) 1) (mark_seen token)) }
 {
-    let field = find_field(types.fields(id), 1);
+    let field = types.field_by_number(id, 1);
     wrapped(
         alloc,
         field,
@@ -103,7 +109,7 @@ fn in_levels(levels: u8, read: Result<Value, Refusal>) -> Result<Item, Refusal>
 /// A token without brackets as a message.
 fn message_as(
     alloc: Global,
-    types: &Types,
+    types: &IndexedTypes<'_>,
     levels: u8,
     id: TypeId,
     token: Token,
@@ -111,7 +117,7 @@ fn message_as(
     ensures { Gives result
         (message_as (types_read types.now) levels (known_of types.now id) (fields_of types.now id) (mark_seen token)) }
 {
-    match known_of(types, id) {
+    match known_of(types.types(), id) {
         Known::Plain => Err(Refusal::Fault(FieldKind::WrongShape)),
         Known::Wrapper => in_levels(levels, wrapper_as(alloc, types, id, token)),
         Known::Timestamp | Known::Duration | Known::FieldMask => {
@@ -123,7 +129,7 @@ fn message_as(
 /// A token without brackets as a value of a kind.
 pub(crate) fn kind_as(
     alloc: Global,
-    types: &Types,
+    types: &IndexedTypes<'_>,
     levels: u8,
     kind: Kind,
     token: Token,
@@ -139,7 +145,7 @@ pub(crate) fn kind_as(
 /// The object that a bracket opens as a value of a kind.
 pub(crate) fn object_by(
     alloc: Global,
-    types: &Types,
+    types: &IndexedTypes<'_>,
     levels: u8,
     kind: Kind,
 ) -> Result<OpenObject, Refusal>
@@ -147,7 +153,7 @@ pub(crate) fn object_by(
 {
     match kind {
         Kind::One(_) => Err(Refusal::Fault(FieldKind::WrongShape)),
-        Kind::Message(id) => match known_of(types, id) {
+        Kind::Message(id) => match known_of(types.types(), id) {
             Known::Plain if levels == 0 => Err(Refusal::Fault(FieldKind::TooDeep)),
             Known::Plain => Ok(OpenObject::Message(levels - 1, id, PartialMessage::new(alloc))),
             _ => Err(Refusal::Fault(FieldKind::WrongShape)),

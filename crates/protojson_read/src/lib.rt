@@ -1,8 +1,7 @@
-//! ProtoJSON read as values (the ProtoJSON guide): messages from the tokens of their JSON, and the texts of scalars, as
-//! they stand in a path, a query or a map's key.
+//! ProtoJSON read as messages (the ProtoJSON guide).
 //!
-//! `Builder` takes one token after another, and gives the value or the first fault. `read_scalar` gives the item that a
-//! text means, or what is wrong with it. The texts of Timestamp, Duration and FieldMask are not read yet.
+//! `Builder` takes one token after another, and gives the value or the first fault; `read_body` reads the bytes of a
+//! whole text so. The texts of Timestamp, Duration and FieldMask are not read yet. Begin with `read_body`.
 #![tactic(auto)]
 
 mod builder;
@@ -11,19 +10,18 @@ pub mod examples;
 mod fault;
 mod kinds;
 pub mod laws;
-mod meanings;
-mod numbers;
 mod partial_message;
 mod refusal;
-mod scalar_texts;
 mod scalar_tokens;
 mod spots;
 mod tables;
 #[cfg(test)]
 mod tests;
 mod turns;
+mod whole_message;
 
 pub use builder::Builder;
-pub use fault::{FieldFault, ScalarFault};
+pub use fault::{BodyFault, FieldFault};
 pub use json_meanings::FieldKind;
-pub use scalar_texts::read_scalar;
+pub use scalar_texts::{ScalarFault, read_scalar};
+pub use whole_message::read_body;

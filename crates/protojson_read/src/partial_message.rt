@@ -1,10 +1,12 @@
 //! What has come of a message.
 ghost use Rattle.std.specs.Prelude.{◌≡◌, IfOk, option_map};
 ghost use Rattle.json_meanings.specs.PartialMessages.{empty_message, field_named, form_of, has_number, is_taken, oneofs_with, put_field, value_of};
+ghost use Rattle.message_types.specs.Types.{fields_of};
 ghost use Rattle.protojson_read.specs.MessageSeen.{form_seen, message_seen};
 
 use base::NoMemory;
-use schema::{Field, Kind, Presence, Shape, Slot, Value};
+use field_index::{IndexedTypes, NumberList};
+use schema::{Field, Kind, Presence, Shape, Slot, TypeId, Value};
 use std::alloc::Global;
 
 /// What the reading of a value needs of its field.
@@ -24,21 +26,9 @@ pub(crate) struct FieldForm {
 /// and the value so far.
 #[derive(Drop)]
 pub(crate) struct PartialMessage {
-    pub(crate) seen: Vec<u32>,
-    pub(crate) oneofs: Vec<u32>,
+    pub(crate) seen: NumberList,
+    pub(crate) oneofs: NumberList,
     pub(crate) value: Value,
-}
-
-/// Whether a number is one of these.
-fn has_number(numbers: &[u32], number: u32) -> bool
-    ensures { result ≡ has_number number numbers.now }
-{
-    for n in numbers {
-        if number == *n {
-            return true;
-        }
-    }
-    false
 }
 
 /// The form of a field.
@@ -54,26 +44,21 @@ pub(crate) fn form_of(field: &Field) -> FieldForm
 }
 
 /// The form of the field that a key names, by its JSON name or by its name.
-pub(crate) fn form_named(fields: &[Field], name: &str) -> Option<FieldForm>
-    ensures { option_map form_seen result ≡ option_map form_of (field_named name.now fields.now) }
+pub(crate) fn form_named(types: &IndexedTypes<'_>, id: TypeId, name: &str) -> Option<FieldForm>
+    ensures { option_map form_seen result ≡ option_map form_of (field_named name.now (fields_of types.now id)) }
 {
-    for field in fields {
-        if name == field.json.as_str() || name == field.name.as_str() {
-            return Some(form_of(field));
-        }
+    match types.field_by_key(id, name) {
+        Some(field) => Some(form_of(field)),
+        None => None,
     }
-    None
 }
 
 /// Keeps the oneof of which a field with this shape is a member.
-fn keep_oneof(shape: Shape, oneofs: &mut Vec<u32>) -> Result<(), NoMemory>
-    ensures { IfOk result (λ r. oneofs.new.items ≡ oneofs_with shape oneofs.old.items) }
+fn keep_oneof(shape: Shape, oneofs: &mut NumberList) -> Result<(), NoMemory>
+    ensures { IfOk result (λ r. oneofs.new ≡ oneofs_with shape oneofs.old) }
 {
     match shape {
-        Shape::Member(oneof) => {
-            oneofs.push(oneof)?;
-            Ok(())
-        }
+        Shape::Member(oneof) => oneofs.push(oneof),
         _ => Ok(()),
     }
 }
@@ -84,8 +69,8 @@ impl PartialMessage {
         ensures { message_seen result ≡ empty_message }
     {
         PartialMessage {
-            seen: Vec::new(alloc),
-            oneofs: Vec::new(alloc),
+            seen: NumberList::new(alloc),
+            oneofs: NumberList::new(alloc),
             value: Value::new(alloc),
         }
     }
@@ -94,7 +79,7 @@ impl PartialMessage {
     pub(crate) fn is_seen(&self, number: u32) -> bool
         ensures { result ≡ has_number number (message_seen self.now).seen }
     {
-        has_number(self.seen.as_slice(), number)
+        self.seen.has(number)
     }
 
     /// Whether another member of the oneof of a field with this shape has a value.
@@ -102,7 +87,7 @@ impl PartialMessage {
         ensures { result ≡ is_taken (message_seen self.now) shape }
     {
         match shape {
-            Shape::Member(oneof) => has_number(self.oneofs.as_slice(), oneof),
+            Shape::Member(oneof) => self.oneofs.has(oneof),
             _ => false,
         }
     }

@@ -7,16 +7,15 @@ ghost use Rattle.protojson_read.specs.TokenAnswers.{Gives, number_fault, text_re
 ghost use Rattle.schema.specs.declared.value.Item.TheOpen.{Number};
 ghost use Rattle.schema.specs.declared.value.Item.{out-Item};
 
-use crate::fault::ScalarFault;
-use crate::laws::keys_are_read_as_texts;
-use crate::numbers::number_of;
 use crate::refusal::Refusal;
-use crate::scalar_texts::read_scalar;
 use base::Text;
+use field_index::IndexedTypes;
 use json_events::Token;
 use json_meanings::FieldKind;
 use json_meanings::laws::numbers_are_read_exactly;
-use schema::{Item, Scalar, Types};
+use scalar_texts::laws::keys_are_read_as_texts;
+use scalar_texts::{ScalarFault, number_of, read_indexed};
+use schema::{Item, Scalar};
 use std::alloc::Global;
 
 /// Why a token with such a text is refused. The strings of JSON are UTF-8.
@@ -44,12 +43,17 @@ fn number_fault(fault: ScalarFault) -> FieldKind
 
 /// A text of a kind other than strings as a scalar.
 #[tactic(auto, using(crate::proofs::TokenLemmas::key_read, crate::proofs::TokenLemmas::key_refused))]
-fn spelled_as(alloc: Global, types: &Types, scalar: Scalar, text: &str) -> Result<Item, Refusal>
+fn spelled_as(
+    alloc: Global,
+    types: &IndexedTypes<'_>,
+    scalar: Scalar,
+    text: &str,
+) -> Result<Item, Refusal>
     requires { IsUtf8 text.now }
     ensures { Gives result (text_as types.now scalar text.now) }
 {
     keys_are_read_as_texts();
-    match read_scalar(alloc, types, scalar, text.as_bytes()) {
+    match read_indexed(alloc, types, scalar, text.as_bytes()) {
         Ok(item) => Ok(item),
         Err(fault) => Err(text_refusal(fault)),
     }
@@ -58,7 +62,7 @@ fn spelled_as(alloc: Global, types: &Types, scalar: Scalar, text: &str) -> Resul
 /// A text as a scalar: so is a map's key read.
 pub(crate) fn text_as(
     alloc: Global,
-    types: &Types,
+    types: &IndexedTypes<'_>,
     scalar: Scalar,
     text: Text,
 ) -> Result<Item, Refusal>
@@ -71,7 +75,12 @@ pub(crate) fn text_as(
 }
 
 /// A JSON string as a scalar: as its text, but a bool is no string.
-fn string_as(alloc: Global, types: &Types, scalar: Scalar, text: Text) -> Result<Item, Refusal>
+fn string_as(
+    alloc: Global,
+    types: &IndexedTypes<'_>,
+    scalar: Scalar,
+    text: Text,
+) -> Result<Item, Refusal>
     ensures { Gives result (string_as types.now scalar text) }
 {
     match scalar {
@@ -113,7 +122,7 @@ fn digits_as(scalar: Scalar, text: &[u8]) -> Result<Item, Refusal>
 /// A token without brackets as a scalar.
 pub(crate) fn scalar_as(
     alloc: Global,
-    types: &Types,
+    types: &IndexedTypes<'_>,
     scalar: Scalar,
     token: Token,
 ) -> Result<Item, Refusal>

@@ -20,9 +20,10 @@ use crate::refusal::Refusal;
 use crate::scalar_tokens::text_as;
 use crate::spots::{Filled, OpenArray, OpenObject, Spot};
 use base::{List, Text};
+use field_index::IndexedTypes;
 use json_events::Token;
 use json_meanings::FieldKind;
-use schema::{Item, Key, Kind, Scalar, Shape, TypeId, Types};
+use schema::{Item, Key, Kind, Scalar, Shape, TypeId};
 use std::alloc::Global;
 
 /// One item fills a spot.
@@ -38,7 +39,7 @@ fn as_single(read: Result<Item, Refusal>) -> Result<Filled, Refusal>
 /// A token without brackets as a field's value, by its shape.
 fn shape_as(
     alloc: Global,
-    types: &Types,
+    types: &IndexedTypes<'_>,
     levels: u8,
     form: FieldForm,
     token: Token,
@@ -54,7 +55,7 @@ fn shape_as(
 /// A token without brackets as a field's value, where another member of its oneof has one or not: null leaves it unset.
 fn field_as(
     alloc: Global,
-    types: &Types,
+    types: &IndexedTypes<'_>,
     levels: u8,
     taken: bool,
     form: FieldForm,
@@ -73,7 +74,7 @@ fn field_as(
 /// A token without brackets as an item of an array or as the value of an entry: null is none.
 fn inner_as(
     alloc: Global,
-    types: &Types,
+    types: &IndexedTypes<'_>,
     levels: u8,
     kind: Kind,
     token: Token,
@@ -96,7 +97,7 @@ fn below(levels: u8) -> u8
 /// What a token without brackets comes to at a spot.
 pub(crate) fn fills(
     alloc: Global,
-    types: &Types,
+    types: &IndexedTypes<'_>,
     spot: &Spot,
     token: Token,
 ) -> Result<Filled, Refusal>
@@ -154,7 +155,7 @@ pub(crate) fn opens_array(alloc: Global, spot: &Spot) -> Result<OpenArray, Refus
 /// The object that a bracket opens as a field's value, by its shape.
 fn object_in(
     alloc: Global,
-    types: &Types,
+    types: &IndexedTypes<'_>,
     levels: u8,
     form: FieldForm,
 ) -> Result<OpenObject, Refusal>
@@ -170,7 +171,11 @@ fn object_in(
 }
 
 /// The object that a bracket opens at a spot.
-pub(crate) fn opens_object(alloc: Global, types: &Types, spot: &Spot) -> Result<OpenObject, Refusal>
+pub(crate) fn opens_object(
+    alloc: Global,
+    types: &IndexedTypes<'_>,
+    spot: &Spot,
+) -> Result<OpenObject, Refusal>
     ensures { GivesObject result (opens_object (types_read types.now) (spot_seen spot.now)) }
 {
     match spot {
@@ -188,7 +193,7 @@ pub(crate) fn opens_object(alloc: Global, types: &Types, spot: &Spot) -> Result<
 
 /// The spot behind a key of a message.
 fn member_at(
-    types: &Types,
+    types: &IndexedTypes<'_>,
     levels: u8,
     id: TypeId,
     message: PartialMessage,
@@ -197,7 +202,7 @@ fn member_at(
     ensures { Names result (member_at levels id (message_seen message)
         (key_of (fields_of types.now id) (message_seen message) name.now)) }
 {
-    match form_named(types.fields(id), name) {
+    match form_named(types, id, name) {
         None => Err(Refusal::Fault(FieldKind::UnknownKey)),
         Some(form) => if message.is_seen(form.number) {
             Err(Refusal::Fault(FieldKind::KeyTwice))
@@ -232,7 +237,7 @@ fn as_key(alloc: Global, item: Item) -> Key
 /// The key of a map's next entry.
 fn entry_key(
     alloc: Global,
-    types: &Types,
+    types: &IndexedTypes<'_>,
     levels: u8,
     scalar: Scalar,
     kind: Kind,
@@ -271,7 +276,7 @@ fn entry_at(
 /// The spot behind a key of an object.
 pub(crate) fn names_spot(
     alloc: Global,
-    types: &Types,
+    types: &IndexedTypes<'_>,
     object: OpenObject,
     name: Text,
 ) -> Result<Spot, Refusal>

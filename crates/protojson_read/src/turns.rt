@@ -15,9 +15,10 @@ use crate::refusal::Refusal;
 use crate::spots::{Filled, OpenArray, OpenObject, Spot, item_of, object_value, slot_of};
 use crate::tables::{fills, names_spot, opens_array, opens_object};
 use base::NoMemory;
+use field_index::IndexedTypes;
 use json_events::Token;
 use json_meanings::FieldKind;
-use schema::{TypeId, Types};
+use schema::TypeId;
 use std::alloc::Global;
 
 /// What may come next.
@@ -121,7 +122,7 @@ fn around_with(around: Vec<Spot>, spot: Spot) -> Result<Vec<Spot>, NoMemory>
 #[tactic(auto, using(crate::proofs::BuilderLemmas::filling))]
 fn value_turn(
     alloc: Global,
-    types: &Types,
+    types: &IndexedTypes<'_>,
     spot: Spot,
     around: Vec<Spot>,
     token: Token,
@@ -151,7 +152,7 @@ fn value_turn(
 #[tactic(auto, using(crate::proofs::BuilderLemmas::in_array_filling))]
 fn array_turn(
     alloc: Global,
-    types: &Types,
+    types: &IndexedTypes<'_>,
     array: OpenArray,
     around: Vec<Spot>,
     token: Token,
@@ -168,7 +169,7 @@ fn array_turn(
 /// A token in an object.
 fn object_turn(
     alloc: Global,
-    types: &Types,
+    types: &IndexedTypes<'_>,
     object: OpenObject,
     around: Vec<Spot>,
     token: Token,
@@ -189,7 +190,7 @@ fn object_turn(
 /// One token.
 pub(crate) fn step(
     alloc: Global,
-    types: &Types,
+    types: &IndexedTypes<'_>,
     levels: Levels,
     token: Token,
 ) -> Result<Levels, Refusal>

@@ -12,7 +12,8 @@ use Rattle.schema.specs.Value.{slot_at, slots_of}
 use Rattle.schema.specs.declared.value.Slot.{Slot}
 use Rattle.schema.specs.declared.value.Value.{Value}
 use Rattle.protojson_write.specs.JsonOutput.{members_text, message_text, object_text, part_text, text_within}
-use Rattle.protojson_write.specs.KnownParts.{KnownTexts, AreByFields, IsByFields}
+use Rattle.protojson_write.specs.KnownParts.{KnownTexts}
+use Rattle.json_meanings.specs.TextTypes.{AreByFields, IsByFields}
 use Rattle.json_meanings.specs.SpotTables.{known_in, known_of}
 
 known_at : (ms : List MessageType) (n : ℕ) → AllByRecursion (λ (m : MessageType). IsByFields m.known) ms

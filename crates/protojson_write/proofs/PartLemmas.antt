@@ -16,7 +16,8 @@ use Rattle.schema.specs.declared.value.Item.TheOpen.{Number, Truth, Text, Bytes,
 use Rattle.schema.specs.declared.value.Item.{out-Item, Item}
 use Rattle.schema.specs.declared.value.Slot.{out-Slot, Slot}
 use Rattle.schema.specs.declared.value.Value.{Value}
-use Rattle.protojson_write.specs.KnownParts.{AreByFields, IsByFields, item_parts, slot_parts, field_parts, own_parts, parts_within}
+use Rattle.protojson_write.specs.KnownParts.{item_parts, slot_parts, field_parts, own_parts, parts_within}
+use Rattle.json_meanings.specs.TextTypes.{AreByFields, IsByFields}
 use Rattle.json_meanings.specs.SpotTables.{known_of}
 use Rattle.protojson_write.proofs.LevelLemmas.{by_fields}
 

@@ -8,7 +8,8 @@ use Rattle.schema.specs.Value.{slot_at}
 use Rattle.schema.specs.declared.value.Slot.{Slot}
 use Rattle.schema.specs.declared.value.Value.{Value}
 use Rattle.protojson_write.specs.JsonOutput.{field_text, json_text, no_texts, part_text, text_within}
-use Rattle.protojson_write.specs.KnownParts.{AreByFields, parts_within}
+use Rattle.protojson_write.specs.KnownParts.{parts_within}
+use Rattle.json_meanings.specs.TextTypes.{AreByFields}
 use Rattle.protojson_write.specs.ShowAnswers.{IsRefusal, IsShown, IsStop}
 use Rattle.protojson_write.specs.declared.fault.ShowFault.{ShowFault}
 use Rattle.protojson_write.specs.declared.fault.ShowFault.TheVariants.{Unprintable, TooLong, NoMemory}

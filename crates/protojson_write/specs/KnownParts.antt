@@ -26,16 +26,6 @@ use Rattle.json_meanings.specs.SpotTables.{known_of}
 abbrev pub KnownTexts : Type 0
 KnownTexts = Known → Value → Option (List ℕ)
 
--- a type is written by its fields alone: any other than a timestamp, a duration or a field mask
-abbrev pub IsByFields : Known → Type 0
-IsByFields Plain = Unit {0}
-IsByFields Wrapper = Unit {0}
-IsByFields _ = ⊥
-
--- no type is a timestamp, a duration or a field mask
-abbrev pub AreByFields : Types → Type 0
-AreByFields types = AllByRecursion (λ (m : MessageType). IsByFields m.known) types.messages
-
 -- those in an item, where `sub` gives those in a message
 abbrev pub item_parts : (TypeId → Value → List (Known × Value)) → Kind → ItemLayer → List (Known × Value)
 item_parts sub (MessageOf id) (Message v) = sub id v

@@ -7,3 +7,5 @@ pub mod JsonOutput
 pub mod ShowAnswers
 pub mod WriterTexts
 pub mod OutputExamples
+pub mod ShownMeans
+pub mod ShownExamples

@@ -5,12 +5,13 @@ ghost use Rattle.protojson_write.specs.JsonOutput.{absent_text, single_default};
 
 use crate::scalars::put_default;
 use base::NoMemory;
-use schema::{Field, Kind, Presence, Shape, Types};
+use field_index::IndexedTypes;
+use schema::{Field, Kind, Presence, Shape};
 
 /// Appends what stands for a single field that is absent.
 fn put_single_default(
     out: &mut Vec<u8>,
-    types: &Types,
+    types: &IndexedTypes<'_>,
     presence: Presence,
     kind: Kind,
 ) -> Result<(), NoMemory>
@@ -24,7 +25,11 @@ fn put_single_default(
 }
 
 /// Appends what stands for a field that is absent.
-pub(crate) fn put_absent(out: &mut Vec<u8>, types: &Types, field: &Field) -> Result<(), NoMemory>
+pub(crate) fn put_absent(
+    out: &mut Vec<u8>,
+    types: &IndexedTypes<'_>,
+    field: &Field,
+) -> Result<(), NoMemory>
     ensures ok { OnOk result (out.new.items ≡ out.old.items ++ absent_text types.now field.now field.now.shape) }
     ensures err { OnErr result (Extends out.old.items out.new.items) }
 {

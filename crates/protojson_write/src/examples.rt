@@ -1,6 +1,8 @@
 //! Worked examples, as laws.
 ghost use Rattle.protojson_write.specs.OutputExamples.{MessageExamplesHold, PartExamplesHold, ScalarExamplesHold};
+ghost use Rattle.protojson_write.specs.ShownExamples.{ShownFieldsHold, ShownMessagesHold};
 
+use json_meanings::examples::bytes_meanings;
 use known_types::examples::bytes_examples;
 
 /// The texts of messages: of a book, of maps of each kind of key, and of messages in messages.
@@ -20,4 +22,13 @@ pub fn part_examples()
     ensures { PartExamplesHold }
 {
     bytes_examples();
+}
+
+/// Values that are shown, and the trees of their texts, which are read as the values again.
+pub fn shown_examples()
+    ensures messages { ShownMessagesHold }
+    ensures fields { ShownFieldsHold }
+{
+    bytes_examples();
+    bytes_meanings();
 }

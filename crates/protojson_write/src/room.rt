@@ -6,7 +6,7 @@ use crate::fault::ShowFault;
 use crate::within::Within;
 
 /// Refuses what ends past the limit.
-pub(crate) fn check(out: &Vec<u8>, within: Within<'_>) -> Result<(), ShowFault>
+pub(crate) fn check(out: &Vec<u8>, within: Within<'_, '_>) -> Result<(), ShowFault>
     ensures ok { OnOk result (length out.now.items ≤ within.entry.start + within.entry.limit) }
     ensures stop { IfErr result (IsStop (within.entry.start + within.entry.limit) out.now.items) }
 {
@@ -17,7 +17,7 @@ pub(crate) fn check(out: &Vec<u8>, within: Within<'_>) -> Result<(), ShowFault>
 }
 
 /// Appends a comma, unless what is there already ends past the limit.
-pub(crate) fn put_comma(out: &mut Vec<u8>, within: Within<'_>) -> Result<(), ShowFault>
+pub(crate) fn put_comma(out: &mut Vec<u8>, within: Within<'_, '_>) -> Result<(), ShowFault>
     ensures ok { OnOk result (out.new.items ≡ out.old.items ++ 44 ∷ []) }
     ensures err { OnErr result (out.new.items ≡ out.old.items) }
     ensures stop { IfErr result (IsStop (within.entry.start + within.entry.limit) out.old.items) }

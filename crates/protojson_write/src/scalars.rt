@@ -2,19 +2,18 @@
 ghost use Rattle.std.specs.Prelude.{◌≡◌, ◌++◌, [], OnOk, OnErr};
 ghost use Rattle.std.specs.Fmt.{signed_decimal};
 ghost use Rattle.std.specs.Option.{option_copied};
-ghost use Rattle.std.specs.Ordering.{int_eq};
 ghost use Rattle.base.specs.Extends.{Extends};
 ghost use Rattle.known_types.specs.BytesTexts.{bytes_text};
 ghost use Rattle.schema.specs.declared.value.Item.{out-Item};
 ghost use Rattle.protojson_write.specs.ScalarOutput.{default_of, enum_text, key_text, name_of, number_text, quoted, scalar_text};
-ghost use Rattle.json_meanings.specs.EnumNames.{values_of};
 ghost use Rattle.json_meanings.specs.JsonScalars.{truth_text};
 
 use base::{NoMemory, Text};
+use field_index::{IndexedEnum, IndexedTypes};
 use itoa::Buffer;
 use json_events::put_string;
 use known_types::show_bytes;
-use schema::{EnumId, EnumValue, Item, Key, Scalar, Types};
+use schema::{Item, Key, Scalar};
 
 /// Appends a number.
 fn put_decimal(out: &mut Vec<u8>, number: i128) -> Result<(), NoMemory>
@@ -71,33 +70,15 @@ fn put_bytes(out: &mut Vec<u8>, bytes: &[u8]) -> Result<(), NoMemory>
     Ok(())
 }
 
-/// The values of an enum, in declared order; none where there is no such enum.
-fn enum_values(types: &Types, id: EnumId) -> &[EnumValue]
-    ensures { result.now ≡ values_of types.now id }
-{
-    match types.enums.get(id.0 as usize) {
-        Some(declared) => declared.values.as_slice(),
-        None => &[],
-    }
-}
-
-/// True where the value has the number.
-fn has_number(value: &EnumValue, number: i128) -> bool
-    ensures { result ≡ int_eq value.now.number number }
-{
-    i128::from(value.number) == number
-}
-
 /// The first declared name of a number.
-fn find_name(values: &[EnumValue], number: i128) -> Option<&Text>
+#[tactic(auto, using(crate::proofs::NameLemmas::name_found, crate::proofs::NameLemmas::name_missing))]
+fn find_name<'a>(values: &IndexedEnum<'a>, number: i128) -> Option<&'a Text>
     ensures { option_copied result ≡ name_of values.now number }
 {
-    for value in values {
-        if has_number(value, number) {
-            return Some(&value.name);
-        }
+    match values.value_with(number) {
+        Some(value) => Some(&value.name),
+        None => None,
     }
-    None
 }
 
 /// Appends a number of an enum.
@@ -114,7 +95,7 @@ fn put_enum(out: &mut Vec<u8>, name: Option<&Text>, number: i128) -> Result<(), 
 /// Appends a number of a scalar kind.
 fn put_number(
     out: &mut Vec<u8>,
-    types: &Types,
+    types: &IndexedTypes<'_>,
     scalar: Scalar,
     number: i128,
 ) -> Result<(), NoMemory>
@@ -127,9 +108,7 @@ fn put_number(
         Scalar::Sint64 => put_quoted_decimal(out, number),
         Scalar::Fixed64 => put_quoted_decimal(out, number),
         Scalar::Sfixed64 => put_quoted_decimal(out, number),
-        Scalar::Enumeration(id) => {
-            put_enum(out, find_name(enum_values(types, id), number), number)
-        }
+        Scalar::Enumeration(id) => { put_enum(out, find_name(types.values(id), number), number) }
         _ => put_decimal(out, number),
     }
 }
@@ -137,7 +116,7 @@ fn put_number(
 /// Appends an item of a scalar kind.
 pub(crate) fn put_scalar(
     out: &mut Vec<u8>,
-    types: &Types,
+    types: &IndexedTypes<'_>,
     scalar: Scalar,
     item: &Item,
 ) -> Result<(), NoMemory>
@@ -154,7 +133,11 @@ pub(crate) fn put_scalar(
 }
 
 /// Appends the default of a scalar kind.
-pub(crate) fn put_default(out: &mut Vec<u8>, types: &Types, scalar: Scalar) -> Result<(), NoMemory>
+pub(crate) fn put_default(
+    out: &mut Vec<u8>,
+    types: &IndexedTypes<'_>,
+    scalar: Scalar,
+) -> Result<(), NoMemory>
     ensures ok { OnOk result (out.new.items ≡ out.old.items ++ scalar_text types.now scalar (default_of scalar)) }
     ensures err { OnErr result (Extends out.old.items out.new.items) }
 {

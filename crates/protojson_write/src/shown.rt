@@ -2,7 +2,7 @@
 ghost use Rattle.std.specs.Prelude.{◌≡◌, length, Some, None, OnOk, OnErr, IfErr};
 ghost use Rattle.base.specs.Extends.{Extends};
 ghost use Rattle.protojson_write.specs.JsonOutput.{text_of};
-ghost use Rattle.protojson_write.specs.KnownParts.{AreByFields};
+ghost use Rattle.json_meanings.specs.TextTypes.{AreByFields};
 ghost use Rattle.protojson_write.specs.ShowAnswers.{IsRefusal, IsShown};
 ghost use Rattle.schema.specs.Validity.{IsValid};
 
@@ -10,12 +10,13 @@ use crate::fault::ShowFault;
 use crate::room::check;
 use crate::within::Within;
 use crate::writer::{put_message, put_part};
-use schema::{MAX_LEVELS, TypeId, Types, Value, find_field};
+use field_index::IndexedTypes;
+use schema::{MAX_LEVELS, TypeId, Value};
 
 /// Appends a message. A part may stand where it is refused.
 fn put_whole(
     out: &mut Vec<u8>,
-    within: Within<'_>,
+    within: Within<'_, '_>,
     id: TypeId,
     value: &Value,
 ) -> Result<(), ShowFault>
@@ -35,7 +36,7 @@ fn put_whole(
 /// Appends one field of a message, with its slot or without. A part may stand where it is refused.
 fn put_field(
     out: &mut Vec<u8>,
-    within: Within<'_>,
+    within: Within<'_, '_>,
     id: TypeId,
     number: u32,
     value: &Value,
@@ -50,7 +51,7 @@ fn put_field(
         (IsRefusal (text_of within.entry.types.now id (Some number) value.now) within.entry.limit) }
     ensures err { OnErr result (Extends out.old.items out.new.items) }
 {
-    let Some(field) = find_field(within.types.fields(id), number) else {
+    let Some(field) = within.types.fields(id).by_number(number) else {
         return Err(ShowFault::Unprintable);
     };
     let inner = Within {
@@ -65,7 +66,7 @@ fn put_field(
 /// has no such field. TooLong where the text alone has over `limit` bytes. Until timestamps, durations and field masks
 /// have texts, no type is one. With every refusal, `out` is as before.
 pub fn show(
-    types: &Types,
+    types: &IndexedTypes<'_>,
     id: TypeId,
     part: Option<u32>,
     value: &Value,

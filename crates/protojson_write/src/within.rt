@@ -1,12 +1,12 @@
 //! What a write rests on: the types, how many levels are left, and where the text is to end.
 
-use schema::Types;
+use field_index::IndexedTypes;
 
 /// The types that are declared, how many levels are left, and the room for the whole text.
-#[derive(Debug, Clone, Copy)]
-pub(crate) struct Within<'a> {
+#[derive(Clone, Copy)]
+pub(crate) struct Within<'a, 'b> {
     /// The types that fields name.
-    pub(crate) types: &'a Types,
+    pub(crate) types: &'a IndexedTypes<'b>,
     /// How many levels of messages are left.
     pub(crate) level: u32,
     /// Where the whole text begins.

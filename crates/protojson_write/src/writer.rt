@@ -10,7 +10,7 @@ ghost use Rattle.schema.specs.declared.value.Item.{out-Item};
 ghost use Rattle.schema.specs.declared.value.Slot.{out-Slot, Slot as SlotOf};
 ghost use Rattle.protojson_write.specs.JsonOutput.{absent_text, array_text, object_text, single_default};
 ghost use Rattle.json_meanings.specs.SpotTables.{known_of};
-ghost use Rattle.protojson_write.specs.KnownParts.{AreByFields};
+ghost use Rattle.json_meanings.specs.TextTypes.{AreByFields};
 ghost use Rattle.protojson_write.specs.ShowAnswers.{IsStop};
 ghost use Rattle.protojson_write.specs.WriterTexts.{MayStop, entry_of, item_of, items_of, member_of, members_of, message_of, object_of, other_items_of, other_members_of, other_pairs_of, pairs_of, part_of, slot_of};
 
@@ -19,12 +19,18 @@ use crate::fault::ShowFault;
 use crate::room::put_comma;
 use crate::scalars::{put_key, put_scalar};
 use crate::within::Within;
+use field_index::{IndexedFields, IndexedTypes};
 use json_events::put_string;
-use schema::{Field, Item, Key, Kind, Known, Slot, TypeId, Types, Value, find_field};
+use schema::{Field, Item, Key, Kind, Known, Slot, TypeId, Value};
 
 /// Appends an item.
 #[cycle(put)]
-fn put_item(out: &mut Vec<u8>, within: Within<'_>, kind: Kind, item: &Item) -> Result<(), ShowFault>
+fn put_item(
+    out: &mut Vec<u8>,
+    within: Within<'_, '_>,
+    kind: Kind,
+    item: &Item,
+) -> Result<(), ShowFault>
     requires { AreByFields within.types.now }
     ensures ok { OnOk result (out.new.items ≡ out.old.items ++ item_of within.entry kind item.now) }
     ensures err { OnErr result (Extends out.old.items out.new.items) }
@@ -41,7 +47,7 @@ fn put_item(out: &mut Vec<u8>, within: Within<'_>, kind: Kind, item: &Item) -> R
 #[cycle(put)]
 fn put_other_items(
     out: &mut Vec<u8>,
-    within: Within<'_>,
+    within: Within<'_, '_>,
     kind: Kind,
     items: &[Item],
 ) -> Result<(), ShowFault>
@@ -61,7 +67,7 @@ fn put_other_items(
 #[cycle(put)]
 fn put_items(
     out: &mut Vec<u8>,
-    within: Within<'_>,
+    within: Within<'_, '_>,
     kind: Kind,
     items: &[Item],
 ) -> Result<(), ShowFault>
@@ -81,7 +87,7 @@ fn put_items(
 #[cycle(put)]
 fn put_array(
     out: &mut Vec<u8>,
-    within: Within<'_>,
+    within: Within<'_, '_>,
     kind: Kind,
     items: &[Item],
 ) -> Result<(), ShowFault>
@@ -100,7 +106,7 @@ fn put_array(
 #[cycle(put)]
 fn put_entry(
     out: &mut Vec<u8>,
-    within: Within<'_>,
+    within: Within<'_, '_>,
     kind: Kind,
     key: &Key,
     item: &Item,
@@ -119,7 +125,7 @@ fn put_entry(
 #[cycle(put)]
 fn put_other_entries(
     out: &mut Vec<u8>,
-    within: Within<'_>,
+    within: Within<'_, '_>,
     kind: Kind,
     entries: &[(Key, Item)],
 ) -> Result<(), ShowFault>
@@ -139,7 +145,7 @@ fn put_other_entries(
 #[cycle(put)]
 fn put_entries(
     out: &mut Vec<u8>,
-    within: Within<'_>,
+    within: Within<'_, '_>,
     kind: Kind,
     entries: &[(Key, Item)],
 ) -> Result<(), ShowFault>
@@ -159,7 +165,7 @@ fn put_entries(
 #[cycle(put)]
 fn put_map(
     out: &mut Vec<u8>,
-    within: Within<'_>,
+    within: Within<'_, '_>,
     kind: Kind,
     entries: &[(Key, Item)],
 ) -> Result<(), ShowFault>
@@ -176,7 +182,12 @@ fn put_map(
 
 /// Appends a slot.
 #[cycle(put)]
-fn put_slot(out: &mut Vec<u8>, within: Within<'_>, kind: Kind, slot: &Slot) -> Result<(), ShowFault>
+fn put_slot(
+    out: &mut Vec<u8>,
+    within: Within<'_, '_>,
+    kind: Kind,
+    slot: &Slot,
+) -> Result<(), ShowFault>
     requires { AreByFields within.types.now }
     ensures ok { OnOk result (out.new.items ≡ out.old.items ++ slot_of within.entry kind slot.now) }
     ensures err { OnErr result (Extends out.old.items out.new.items) }
@@ -193,7 +204,7 @@ fn put_slot(out: &mut Vec<u8>, within: Within<'_>, kind: Kind, slot: &Slot) -> R
 #[cycle(put)]
 fn put_member(
     out: &mut Vec<u8>,
-    within: Within<'_>,
+    within: Within<'_, '_>,
     field: Option<&Field>,
     slot: &Slot,
 ) -> Result<(), ShowFault>
@@ -212,8 +223,8 @@ fn put_member(
 #[cycle(put)]
 fn put_other_members(
     out: &mut Vec<u8>,
-    within: Within<'_>,
-    fields: &[Field],
+    within: Within<'_, '_>,
+    fields: &IndexedFields<'_>,
     slots: &[(u32, Slot)],
 ) -> Result<(), ShowFault>
     requires { AreByFields within.types.now }
@@ -223,7 +234,7 @@ fn put_other_members(
 {
     for (number, slot) in slots {
         put_comma(out, within)?;
-        put_member(out, within, find_field(fields, *number), slot)?;
+        put_member(out, within, fields.by_number(*number), slot)?;
     }
     Ok(())
 }
@@ -232,8 +243,8 @@ fn put_other_members(
 #[cycle(put)]
 fn put_members(
     out: &mut Vec<u8>,
-    within: Within<'_>,
-    fields: &[Field],
+    within: Within<'_, '_>,
+    fields: &IndexedFields<'_>,
     slots: &[(u32, Slot)],
 ) -> Result<(), ShowFault>
     requires { AreByFields within.types.now }
@@ -244,7 +255,7 @@ fn put_members(
     let Some((first, rest)) = slots.split_first() else {
         return Ok(());
     };
-    put_member(out, within, find_field(fields, first.0), &first.1)?;
+    put_member(out, within, fields.by_number(first.0), &first.1)?;
     put_other_members(out, within, fields, rest)
 }
 
@@ -252,8 +263,8 @@ fn put_members(
 #[cycle(put)]
 fn put_object(
     out: &mut Vec<u8>,
-    within: Within<'_>,
-    fields: &[Field],
+    within: Within<'_, '_>,
+    fields: &IndexedFields<'_>,
     slots: &[(u32, Slot)],
 ) -> Result<(), ShowFault>
     requires { AreByFields within.types.now }
@@ -271,7 +282,7 @@ fn put_object(
 #[cycle(put)]
 pub(crate) fn put_part(
     out: &mut Vec<u8>,
-    within: Within<'_>,
+    within: Within<'_, '_>,
     field: Option<&Field>,
     slot: Option<&Slot>,
 ) -> Result<(), ShowFault>
@@ -290,10 +301,10 @@ pub(crate) fn put_part(
 }
 
 /// Which well-known type a message type is.
-fn find_known(types: &Types, id: TypeId) -> Known
+fn find_known(types: &IndexedTypes<'_>, id: TypeId) -> Known
     ensures { result ≡ known_of types.now id }
 {
-    match types.messages.get(id.0 as usize) {
+    match types.types().messages.get(id.0 as usize) {
         Some(message) => message.known,
         None => Known::Plain,
     }
@@ -303,7 +314,7 @@ fn find_known(types: &Types, id: TypeId) -> Known
 #[cycle(put)]
 pub(crate) fn put_message(
     out: &mut Vec<u8>,
-    within: Within<'_>,
+    within: Within<'_, '_>,
     id: TypeId,
     value: &Value,
 ) -> Result<(), ShowFault>
@@ -322,7 +333,7 @@ pub(crate) fn put_message(
     let fields = within.types.fields(id);
     match find_known(within.types, id) {
         Known::Plain => put_object(out, inner, fields, value.fields()),
-        Known::Wrapper => put_part(out, inner, find_field(fields, 1), value.get(1)),
+        Known::Wrapper => put_part(out, inner, fields.by_number(1), value.get(1)),
         _ => unreachable!(),
     }
 }

@@ -5,11 +5,14 @@
 
 mod blocks;
 mod books;
+mod json_books;
+mod json_types;
 mod requests;
 mod texts;
 
 use blocks::block_rounds;
 use books::{book_rounds, encode_rounds, many_items};
+use json_books::{book_tokens, read_rounds, show_rounds};
 use requests::{bind_rounds, route_rounds};
 use std::alloc::{AllocError, Global};
 use std::io::{self, Read, Write};
@@ -24,6 +27,23 @@ fn number_of(word: Option<&String>) -> usize {
     }
 }
 
+/// How many bytes the JSON of a small book has, and of a large one.
+const BOOK_BYTES: [usize; 2] = [1_024, 65_536];
+
+/// What is counted of books in JSON; 0 of other words.
+fn counted_books(alloc: Global, what: &str, size: usize) -> u64 {
+    let [small, large] = BOOK_BYTES;
+    match what {
+        "json-tokens-small" => book_tokens(alloc, small, size),
+        "json-tokens-large" => book_tokens(alloc, large, size),
+        "json-read-small" => read_rounds(alloc, small, size),
+        "json-read-large" => read_rounds(alloc, large, size),
+        "json-show-small" => show_rounds(alloc, small, size),
+        "json-show-large" => show_rounds(alloc, large, size),
+        _ => 0,
+    }
+}
+
 /// What is counted for the words.
 fn counted(alloc: Global, what: &str, size: usize) -> Result<u64, AllocError> {
     match what {
@@ -34,7 +54,7 @@ fn counted(alloc: Global, what: &str, size: usize) -> Result<u64, AllocError> {
         "many" => Ok(many_items(alloc, size)),
         "huffman" => Ok(block_rounds(alloc, true, size)),
         "indexed" => Ok(block_rounds(alloc, false, size)),
-        _ => Ok(0),
+        _ => Ok(counted_books(alloc, what, size)),
     }
 }
 
@@ -59,13 +79,19 @@ fn counted_of(alloc: Global, set: &[u8], what: &str, words: &[String]) -> u64 {
 }
 
 /// The parts that are timed, each by its own size.
-const PARTS: [&str; 6] = [
+const PARTS: [&str; 12] = [
     "tokens",
     "tokens-by-byte",
     "decode",
     "encode",
     "huffman",
     "indexed",
+    "json-tokens-small",
+    "json-tokens-large",
+    "json-read-small",
+    "json-read-large",
+    "json-show-small",
+    "json-show-large",
 ];
 
 /// One line a part, over the least input: what the gate compares.

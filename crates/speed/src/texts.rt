@@ -18,18 +18,18 @@ fn books(alloc: Global, size: usize) -> Result<Vec<u8>, AllocError> {
     Ok(text)
 }
 
-/// How many tokens a text of about so many MiB has, read in pieces of so many bytes; 0 where it is refused.
-pub fn token_count(alloc: Global, size: usize, piece: usize) -> Result<u64, AllocError> {
-    let text = books(alloc, size)?;
+/// How many tokens a text has, read in pieces of so many bytes; 0 where it is refused. A number that only the text's end
+/// ends is left out.
+fn tokens_in(alloc: Global, text: &[u8], piece: usize) -> u64 {
     let mut reader = Reader::new(alloc);
     let mut count = 0u64;
-    let mut rest = text.as_slice();
+    let mut rest = text;
     for _ in 0..text.len().saturating_mul(2).saturating_add(1) {
         if rest.is_empty() {
             break;
         }
         match reader.feed(&rest[..piece.min(rest.len())]) {
-            Err(_) => return Ok(0),
+            Err(_) => return 0,
             Ok(fed) => {
                 rest = rest.get(fed.taken..).unwrap_or(b"");
                 if fed.token.is_some() {
@@ -38,5 +38,19 @@ pub fn token_count(alloc: Global, size: usize, piece: usize) -> Result<u64, Allo
             }
         }
     }
-    Ok(count)
+    count
+}
+
+/// How many tokens a text of about so many MiB has, read in pieces of so many bytes; 0 where it is refused.
+pub fn token_count(alloc: Global, size: usize, piece: usize) -> Result<u64, AllocError> {
+    Ok(tokens_in(alloc, books(alloc, size)?.as_slice(), piece))
+}
+
+/// How many tokens a text has that is read so often in one piece; 0 where it is refused.
+pub fn token_rounds(alloc: Global, text: &[u8], rounds: usize) -> u64 {
+    let mut count = 0u64;
+    for _ in 0..rounds {
+        count = count.saturating_add(tokens_in(alloc, text, text.len()));
+    }
+    count
 }

@@ -22,11 +22,11 @@ put_message-returns-in-Plain-clause-stop t c =
 
 pub put_message-returns-in-Wrapper-clause-ok : goal.put_message-returns-in-Wrapper-clause-ok
 put_message-returns-in-Wrapper-clause-ok t c =
-    rw (text_wrapper no_texts c.args.within.level c.args.within.types.now c.args.id c.args.value.now _ _ _ _ c.if-within-eq0.false c.find_known.ensures c.in-Wrapper.is c.fields-fields.ensures c.find_field.ensures c.get.ensures) c.put_part.ensures.ok
+    rw (text_wrapper no_texts c.args.within.level c.args.within.types.now c.args.id c.args.value.now _ _ _ _ c.if-within-eq0.false c.find_known.ensures c.in-Wrapper.is c.fields-fields.ensures c.by_number.ensures c.get.ensures) c.put_part.ensures.ok
 
 pub put_message-returns-in-Wrapper-clause-stop : goal.put_message-returns-in-Wrapper-clause-stop
 put_message-returns-in-Wrapper-clause-stop t c =
-    rw (text_wrapper no_texts c.args.within.level c.args.within.types.now c.args.id c.args.value.now _ _ _ _ c.if-within-eq0.false c.find_known.ensures c.in-Wrapper.is c.fields-fields.ensures c.find_field.ensures c.get.ensures) c.put_part.ensures.stop
+    rw (text_wrapper no_texts c.args.within.level c.args.within.types.now c.args.id c.args.value.now _ _ _ _ c.if-within-eq0.false c.find_known.ensures c.in-Wrapper.is c.fields-fields.ensures c.by_number.ensures c.get.ensures) c.put_part.ensures.stop
 
 pub put_other_items-returns-in_err-put_item-clause-err : goal.put_other_items-returns-in_err-put_item-clause-err
 put_other_items-returns-in_err-put_item-clause-err t c =

@@ -1,0 +1,4 @@
+pub mod PartSizes
+pub mod PlaceSteps
+pub mod PartScan
+pub mod PartReading

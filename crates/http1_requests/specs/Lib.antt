@@ -1,0 +1,11 @@
+pub mod HeadEnd
+pub mod GrammarReading
+pub mod HeadJudgement
+pub mod HeadCauses
+pub mod ChunkedBody
+pub mod FirstHeads
+pub mod ClientRequests
+pub mod RequestGrowth
+pub mod ExampleBytes
+pub mod HeadExamples
+pub mod RequestExamples

@@ -1,5 +1,0 @@
-use Rattle.protojson_read.proofs.EachReading.{each_reading}
-use Rattle.protojson_read.proofs.laws.every_text_is_read.Goals as goal
-
-pub returns : goal.returns
-returns c = each_reading c.spelled_bytes_are_computed.ensures c.one_answer_of_a_text.ensures.some

@@ -1,5 +1,0 @@
-use Rattle.protojson_read.proofs.ReadingLemmas.{one_reading}
-use Rattle.protojson_read.proofs.laws.one_reading_of_a_text.Goals as goal
-
-pub returns : goal.returns
-returns c = one_reading c.texts_mean_one_value.ensures.numbers c.one_meaning_of_a_text.ensures

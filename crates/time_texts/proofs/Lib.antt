@@ -1,0 +1,13 @@
+-- DigitLemmas: digits, their values, and numbers in so many digits. FractionLemmas: fractions, and what is written for
+-- billionths. DurationLemmas, TimestampLemmas: how a text is cut into its parts. TimestampReads: what is read of a
+-- timestamp's. ShownLemmas, LawLemmas: the laws. UtcLemmas: the text that one computes for an instant. ExampleFacts:
+-- the examples.
+mod DigitLemmas
+mod FractionLemmas
+mod DurationLemmas
+mod TimestampLemmas
+mod TimestampReads
+mod ShownLemmas
+mod LawLemmas
+mod ExampleFacts
+mod UtcLemmas

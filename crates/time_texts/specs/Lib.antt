@@ -1,0 +1,11 @@
+pub mod Digits
+pub mod Fractions
+pub mod DurationTexts
+pub mod DurationCut
+pub mod DurationPartsSeen
+pub mod TimestampTexts
+pub mod TimestampCut
+pub mod DurationReading
+pub mod DurationExamples
+pub mod TimestampExamples
+pub mod UtcTimes
