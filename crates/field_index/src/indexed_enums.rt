@@ -99,7 +99,8 @@ impl<'a> IndexedEnum<'a> {
         })
     }
 
-    /// The number of the first value that has the name.
+    /// The number of the first value that has the name; none where no value has it. The bytes of the name need not be
+    /// UTF-8. Takes time log n in the values, and no memory.
     pub fn number_named(&self, name: &[u8]) -> Option<i32>
         ensures { result ≡ number_named self.now name.now }
     {

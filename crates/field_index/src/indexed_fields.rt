@@ -92,11 +92,12 @@ impl<'a> IndexedFields<'a> {
         })
     }
 
-    /// The first field that a key names, by its JSON name or by its name in the .proto file.
-    pub fn by_key(&self, key: &str) -> Option<&'a Field>
+    /// The first field that a key names, by its JSON name or by its name in the .proto file; none where no field has
+    /// it. The bytes of the key need not be UTF-8. Takes time log n in the fields, and no memory.
+    pub fn by_key(&self, key: &[u8]) -> Option<&'a Field>
         ensures { option_copied result ≡ field_named key.now self.now }
     {
-        self.by_key.get(key.as_bytes()).copied()
+        self.by_key.get(key).copied()
     }
 
     /// The first field that has the number.

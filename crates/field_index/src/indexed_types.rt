@@ -103,8 +103,9 @@ impl<'a> IndexedTypes<'a> {
         values
     }
 
-    /// The first field of a message type that a key names, by its JSON name or by its name in the .proto file.
-    pub fn field_by_key(&self, id: TypeId, key: &str) -> Option<&'a Field>
+    /// The first field of a message type that a key names, by its JSON name or by its name in the .proto file; none
+    /// where no field has it. The bytes of the key need not be UTF-8. Takes time log n in the fields, and no memory.
+    pub fn field_by_key(&self, id: TypeId, key: &[u8]) -> Option<&'a Field>
         ensures { option_copied result ≡ field_named key.now (fields_of self.now id) }
     {
         self.fields(id).by_key(key)

@@ -2,3 +2,5 @@
 -- policy picks: PolicyLemmas.
 pub mod PieceLemmas
 pub mod PolicyLemmas
+-- A head that takes one more field: `Head::field`.
+mod HeadLemmas

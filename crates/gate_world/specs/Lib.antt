@@ -7,6 +7,8 @@ pub mod Sinks
 pub mod Policies
 pub mod Refusals
 pub mod MessageHead
+pub mod KeptHead
+pub mod LimitRanges
 pub mod NumberedCalls
 pub mod FixedRoom
 pub mod FixedOutside

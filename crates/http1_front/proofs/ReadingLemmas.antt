@@ -1,6 +1,5 @@
 -- What a reader of parts has read, by whole lists.
-use Rattle.std.proofs.Common.{◌≡◌, ◌≤◌, ◌<◌, ◌⊎◌, inl, inr, ℕ, ◌+◌, ◌-◌, nat_lt, List, [], ◌++◌, length, take, drop, min, refl, sym, ap, ◌∙◌, subst, arith, append_assoc, append-nil, length-append, length-take, Option, Some, None, if◌then◌else◌}
-use Rattle.std.proofs.Math.Seq.{take-append-add, take-append_seam, drop-append_seam}
+use Rattle.std.proofs.Common.{◌≡◌, ◌↔◌, ◌≤◌, ◌<◌, ◌⊎◌, inl, inr, ℕ, ◌+◌, ◌-◌, nat_lt, List, [], ◌++◌, length, take, drop, min, refl, sym, ap, ◌∙◌, subst, arith, append_assoc, append-nil, length-append, length-take, Option, Some, None, if◌then◌else◌}
 use Rattle.std.proofs.lemmas.Bool.{lt-ltb, le-ltb, cases_lt}
 use Rattle.std.proofs.lemmas.List.{take_all, drop_all, take-append-le, take-append-drop}
 use Rattle.http1_front.specs.declared.part.Part.{Part}
@@ -8,7 +7,8 @@ use Rattle.http1_front.specs.declared.place.Place.{Place}
 use Rattle.http1_front.specs.declared.place.Place.TheVariants.{Blank, BlankReturn, InLine, LineFeed, LineFeedReturn, SectionStart, SectionReturn, InSizeLine}
 use Rattle.http1_front.specs.declared.part_reader.Progress.{Progress}
 use Rattle.http1_front.specs.declared.part_reader.Progress.TheVariants as progresses
-use Rattle.http1_requests.specs.HeadEnd.{line_size, size_to_empty_line, head_size, behind_empty_lines, Cut, NoEnd, TooLarge, Ends, cut_by}
+use Rattle.http1_requests.specs.HeadEnd.{line_size, size_to_empty_line, head_size, behind_empty_lines, Cut, NoEnd, TooLarge, Ends}
+use Rattle.http1_requests.proofs.Theorems.{same_ends, cut_at_end}
 use Rattle.http1_front.specs.declared.scan.Found.{Found}
 use Rattle.http1_front.specs.PartSizes.{part_size, part_lines}
 use Rattle.http1_front.specs.PlaceSteps.{held, rest_size, rest_lines, moved}
@@ -44,16 +44,10 @@ open_lines part bytes place lines s =
 -- a part that has ended is cut there, whatever follows
 whole_cut : (part : Part) (bytes more : List ℕ) (lines : ℕ) → IsWhole part bytes lines → length bytes ≤ 16384
     → part_cut part (bytes ++ more) ≡ Ends bytes more
-whole_cut part bytes more lines w fits =
-    let there : length bytes + (16384 - length bytes) ≡ 16384 = omega (arith, fits) in
-    let front : take 16384 (bytes ++ more) ≡ bytes ++ take (16384 - length bytes) more =
-    ap (λ (n : ℕ). take n (bytes ++ more)) (sym there) ∙ take-append-add bytes more (16384 - length bytes) in
-    ap (λ (t : List ℕ). cut_by (part_size part t) (bytes ++ more)) front
-    ∙ ap (λ (x : Option ℕ). cut_by x (bytes ++ more)) (w.size (take (16384 - length bytes) more))
-    ∙ rw (take-append_seam bytes more, drop-append_seam bytes more) refl
+whole_cut part bytes more lines w fits = cut_at_end (part_size part) bytes w.size fits more
 
 -- a part that is open is not cut
-open_cut : (part : Part) (bytes : List ℕ) (place : Place) (lines : ℕ) → IsScanned part bytes place lines
+pub open_cut : (part : Part) (bytes : List ℕ) (place : Place) (lines : ℕ) → IsScanned part bytes place lines
     → length bytes < 16384 → part_cut part bytes ≡ NoEnd
 open_cut part bytes place lines s few =
     rw (take_all 16384 bytes (omega (arith, few)), open_size part bytes place lines s, lt-ltb _ _ few) refl
@@ -125,6 +119,57 @@ pub joined : (old new piece : List ℕ) (n : ℕ) → new ≡ old ++ take n piec
 joined old new piece n e =
     ap (λ (t : List ℕ). old ++ t) (sym (take-append-drop n piece))
     ∙ sym (append_assoc old (take n piece) (drop n piece)) ∙ ap (λ (t : List ℕ). t ++ drop n piece) (sym e)
+
+-- the part has ended in these bytes exactly where it is read
+pub reading_end : (part : Part) (progress : Progress) (lines : ℕ) (bytes rest : List ℕ)
+    → HasProgress part progress lines bytes → length bytes ≤ 16384 → TakesAll progress rest
+    → (p r : List ℕ) → (part_cut part (bytes ++ rest) ≡ Ends p r)
+    ↔ ((part_cut part p ≡ Ends p []) × (bytes ≡ p) × (rest ≡ r))
+reading_end part progress lines bytes rest h w all p r = (there progress h all, back)
+  where
+    no_end : NoEnd ≡ Ends p r → ⊥
+    no_end x = absurd (cc)
+
+    too_large : TooLarge ≡ Ends p r → ⊥
+    too_large x = absurd (cc)
+
+    there : (progress : Progress) → HasProgress part progress lines bytes → TakesAll progress rest
+        → part_cut part (bytes ++ rest) ≡ Ends p r → (part_cut part p ≡ Ends p []) × (bytes ≡ p) × (rest ≡ r)
+    there (progresses.Open place) h all e =
+        absurd (no_end (sym (open_cut part bytes place lines h.0 h.1)
+        ∙ ap (part_cut part) (sym (ap (λ (t : List ℕ). bytes ++ t) all ∙ append-nil bytes)) ∙ e))
+    there progresses.Whole h all e =
+        let is = same_ends bytes rest p r (sym (whole_cut part bytes rest lines h w) ∙ e) in (
+          subst (λ (t : List ℕ). part_cut part t ≡ Ends t []) is.0
+              (ap (part_cut part) (sym (append-nil bytes)) ∙ whole_cut part bytes [] lines h w),
+          is.0,
+          is.1,
+        )
+    there progresses.TooLarge h all e = absurd (too_large (sym (large_cut part bytes rest h.0 lines h.1 h.2) ∙ e))
+
+    back : (part_cut part p ≡ Ends p []) × (bytes ≡ p) × (rest ≡ r) → part_cut part (bytes ++ rest) ≡ Ends p r
+    back x =
+        reading_cut part progress lines bytes rest h w all
+        ∙ ap (λ (t : List ℕ). behind_cut (part_cut part t) rest) x.1
+        ∙ ap (λ (c : Cut). behind_cut c rest) x.0
+        ∙ ap (λ (t : List ℕ). Ends p t) x.2
+
+-- a part that is too large stays so
+pub reading_large : (part : Part) (progress : Progress) (lines : ℕ) (bytes rest : List ℕ)
+    → HasProgress part progress lines bytes → length bytes ≤ 16384
+    → part_cut part bytes ≡ TooLarge → (more : List ℕ) → part_cut part (bytes ++ (rest ++ more)) ≡ TooLarge
+reading_large part (progresses.Open place) lines bytes rest h w e more =
+    absurd (apart (sym (open_cut part bytes place lines h.0 h.1) ∙ e))
+  where
+    apart : NoEnd ≡ TooLarge → ⊥
+    apart x = absurd (cc)
+reading_large part progresses.Whole lines bytes rest h w e more =
+    absurd (apart (sym (ap (part_cut part) (sym (append-nil bytes)) ∙ whole_cut part bytes [] lines h w) ∙ e))
+  where
+    apart : Ends bytes [] ≡ TooLarge → ⊥
+    apart x = absurd (cc)
+reading_large part progresses.TooLarge lines bytes rest h w e more =
+    large_cut part bytes (rest ++ more) h.0 lines h.1 h.2
 
 -- the lines that have ended
 pub reading_lines : (part : Part) (progress : Progress) (lines : ℕ) (bytes : List ℕ)

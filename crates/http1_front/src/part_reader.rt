@@ -1,6 +1,6 @@
 //! Gathering one part of a connection's bytes, up to its end or its limit (RFC 9112, sections 2.2 and 7.1).
-ghost use Rattle.std.specs.Prelude.{◌≡◌, ◌≤◌, ◌<◌, ◌++◌, [], List, length, take, drop, IfOk, vec_capacity};
-ghost use Rattle.http1_requests.specs.HeadEnd.{NoEnd, cut_at};
+ghost use Rattle.std.specs.Prelude.{◌≡◌, ◌≢◌, ◌↔◌, ◌≤◌, ◌<◌, ◌++◌, ℕ, [], List, length, take, drop, IfOk, vec_capacity};
+ghost use Rattle.http1_requests.specs.HeadEnd.{Ends, NoEnd, TooLarge, cut_at};
 ghost use Rattle.http1_front.specs.PartReading.{ReadPart, part_cut, behind_cut, IsStateOf, IsKept, IsNewPart, progress_behind};
 ghost use Rattle.http1_front.specs.PartScan.{IsScanned};
 ghost use Rattle.http1_front.specs.declared.part.Part.{Part};
@@ -120,7 +120,9 @@ impl PartReader {
     }
 
     /// Takes bytes of the part, up to its end or its limit, and says how many it took: all of them
-    /// where the part is still open then, and none where it was not open before.
+    /// where the part is still open then, and none where it was not open before. Where the bytes so
+    /// far and the piece have the part's end, and only there, it has the part then, and left what
+    /// stands behind it. A part that is too large stays so, whatever follows.
     pub fn read(&mut self, piece: &[u8]) -> usize
         ensures taken { result ≤ length piece.now }
         ensures bytes { self.new.bytes ≡ self.old.bytes ++ take result piece.now }
@@ -128,6 +130,12 @@ impl PartReader {
         ensures cut { part_cut self.old.part (self.old.bytes ++ piece.now)
             ≡ behind_cut (part_cut self.new.part self.new.bytes) (drop result piece.now) }
         ensures open { part_cut self.new.part self.new.bytes ≡ NoEnd → result ≡ length piece.now }
+        ensures end { (part rest : List ℕ) → (part_cut self.old.part (self.old.bytes ++ piece.now) ≡ Ends part rest)
+            ↔ ((part_cut self.old.part part ≡ Ends part []) × (self.new.bytes ≡ part)
+            × (drop result piece.now ≡ rest)) }
+        ensures closed { part_cut self.old.part self.old.bytes ≢ NoEnd → (result ≡ 0) × (self.new ≡ self.old) }
+        ensures large { part_cut self.new.part self.new.bytes ≡ TooLarge → (more : List ℕ)
+            → part_cut self.old.part (self.old.bytes ++ (piece.now ++ more)) ≡ TooLarge }
     {
         let place = match self.progress {
             Progress::Open(place) => place,

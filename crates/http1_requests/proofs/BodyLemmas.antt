@@ -9,8 +9,9 @@ use Rattle.http1_requests.specs.GrammarReading.{section_in, chunk_line_in}
 use Rattle.gate_world.specs.declared.body_length.BodyLength.{BodyLength}
 use Rattle.gate_world.specs.declared.body_length.BodyLength.TheVariants.{Nothing, Length, Chunked}
 use Rattle.http1_requests.specs.ChunkedBody.{BodyEnd, GoesOn, Breaks, EndsBefore, Body, Chunk, Stops, Whole, behind_data, trailers_end, trailers, sized_chunk, chunk_behind, chunk_by, chunk_of, behind, then_chunks, decoded_within, decoded, counted, body_of}
+use Rattle.http1_requests.specs.PartGrowth.{GrowsCut}
 use Rattle.http1_requests.proofs.GrowLemmas.{Stays, stays_none, stays_same, alone, line_size_grows, in_line_grows}
-use Rattle.http1_requests.proofs.CutLemmas.{Within, within_if, within_take, line_size_within, in_line_within, GrowsCut, cut_at_grows}
+use Rattle.http1_requests.proofs.CutLemmas.{Within, within_if, within_take, line_size_within, in_line_within, cut_at_grows}
 
 -- ---- trailer sections
 
@@ -20,7 +21,8 @@ one_feed true t v x old new none = λ a e. e
 one_feed false true v x old new none = stays_none old _ none
 one_feed false false v x old new none = stays_none old _ none
 
-section_size_grows : (bytes more : List ℕ) → Stays (section_size bytes) (section_size (bytes ++ more))
+-- the size of a section stays
+pub section_size_grows : (bytes more : List ℕ) → Stays (section_size bytes) (section_size (bytes ++ more))
 unfolding size_to_empty_line
 section_size_grows [] more = stays_none None _ refl
 section_size_grows (b ∷ []) more =
@@ -39,7 +41,8 @@ two_long : (t : Bool) (n : ℕ) → (0 < (if t then 1 else 2)) × ((if t then 1 
 two_long true n = (omega arith, omega arith)
 two_long false n = (omega arith, omega arith)
 
-section_size_within : (bytes : List ℕ) → Within (section_size bytes) (length bytes)
+-- a section has a byte at least, and at most all
+pub section_size_within : (bytes : List ℕ) → Within (section_size bytes) (length bytes)
 unfolding size_to_empty_line
 section_size_within [] = tt
 section_size_within (b ∷ []) = one_within (b == 10) (b == 13) _ (in_line_within (b ∷ []))

@@ -106,7 +106,8 @@ small_length n h =
     let most : 10 ^ length n ≤ 10 ^ 18 = pow-le-pow_right {n = 10} (lit< tt) few in
     omega (arith, below, most)
 
-some_length : (a b : BodyLength) → ◌≡◌ {A = Option BodyLength} (Some a) (Some b) → a ≡ b
+-- a body that is told is that one
+pub some_length : (a b : BodyLength) → ◌≡◌ {A = Option BodyLength} (Some a) (Some b) → a ≡ b
 some_length a b e = cc
 
 -- a length of a body is below 10 ^ 18

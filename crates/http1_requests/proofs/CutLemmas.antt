@@ -3,7 +3,8 @@ use Rattle.std.proofs.Common.{◌≡◌, ℕ, suc, ◌+◌, ◌-◌, ◌≤◌, 
 use lib.Seq.{take_all, take-append-le, drop-append-le, take-append-add}
 use Rattle.std.specs.Prelude.{⊤}
 use Rattle.std.proofs.lemmas.Bool.{lt-ltb, le-ltb, cases_lt}
-use Rattle.http1_requests.specs.HeadEnd.{begins_empty_line, line_size, size_to_empty_line, head_size, Cut, NoEnd, TooLarge, Ends, cut_by, cut_at}
+use Rattle.http1_requests.specs.HeadEnd.{begins_empty_line, line_size, size_to_empty_line, head_size, Ends, cut_by, cut_at}
+use Rattle.http1_requests.specs.PartGrowth.{GrowsCut}
 use Rattle.http1_requests.proofs.GrowLemmas.{Stays, alone}
 
 -- a size of at least one and at most k
@@ -55,12 +56,6 @@ head_size_within [] = tt
 head_size_within (b ∷ bytes) =
     within_if (begins_empty_line (b ∷ bytes)) _ _ _ (within_suc _ _ (head_size_within bytes))
     (in_line_within (b ∷ bytes))
-
--- what is cut, as more comes
-abbrev pub GrowsCut : Cut → Cut → List ℕ → Type 0
-GrowsCut NoEnd new more = ⊤
-GrowsCut TooLarge new more = new ≡ TooLarge
-GrowsCut (Ends part rest) new more = new ≡ Ends part (rest ++ more)
 
 same_cut : (n : ℕ) (bytes more : List ℕ) → n ≤ length bytes
     → cut_by (Some n) (bytes ++ more) ≡ Ends (take n bytes) (drop n bytes ++ more)

@@ -8,14 +8,14 @@ use Rattle.http1_requests.proofs.Theorems.{line_feeds-append, line_feeds_other}
 use Rattle.http1_requests.proofs.GrammarLaw.{apart, begins_token, behind_empty_lines_print_blank}
 
 -- bytes of a class without it have none
-no_line_feeds : (P : ℕ → Bool) (w : List ℕ) → P 10 ≡ false → AllPass P w → line_feeds w ≡ 0
+pub no_line_feeds : (P : ℕ → Bool) (w : List ℕ) → P 10 ≡ false → AllPass P w → line_feeds w ≡ 0
 no_line_feeds P [] out all = refl
 no_line_feeds P (b ∷ w) out all =
     line_feeds_other b w (apart P 10 b out (All-head (λ v. P v ≡ true) b w all))
     ∙ no_line_feeds P w out (All-tail (λ v. P v ≡ true) b w all)
 
 -- a line end has one
-line_feeds_print_end : (e : LineEnd) → line_feeds (print_end e) ≡ 1
+pub line_feeds_print_end : (e : LineEnd) → line_feeds (print_end e) ≡ 1
 line_feeds_print_end crlf = refl
 line_feeds_print_end lf = refl
 
@@ -51,7 +51,7 @@ line_feeds_print_section (f ∷ fields) last all =
     )
 
 -- the version has none
-line_feeds_print_version : (minor : ℕ) → line_feeds (print_version minor) ≡ 0
+pub line_feeds_print_version : (minor : ℕ) → line_feeds (print_version minor) ≡ 0
 line_feeds_print_version minor =
     ap (λ (t : Bool). 0 + cond t 1 0) (ne_eqb (48 + minor) 10 (λ e. omega (arith, e)))
 

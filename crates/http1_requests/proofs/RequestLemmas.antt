@@ -7,8 +7,9 @@ use Rattle.http1_requests.specs.HeadJudgement.{Judgement, Refused, Served, judge
 use Rattle.http1_requests.specs.ChunkedBody.{BodyEnd, GoesOn, Breaks, EndsBefore, Body, body_of}
 use Rattle.http1_requests.specs.ClientRequests.{Open, Ended, Broken, ClientRequest, RefusedHead, Request, FirstRequest, NoRequest, LastRequest, Followed, with_body, with_whole_body, with_head, first_by, first_request, then_requests, requests_within, client_requests}
 use Rattle.http1_requests.specs.RequestGrowth.{GrowsTo, Later, ShowsGrown, LastGrowsTo, FirstGrowsBy, IsFinal, EndsFinal}
+use Rattle.http1_requests.specs.PartGrowth.{GrowsCut}
 use Rattle.http1_requests.proofs.GrowLemmas.{head_size_grows}
-use Rattle.http1_requests.proofs.CutLemmas.{head_size_within, GrowsCut, cut_at_grows}
+use Rattle.http1_requests.proofs.CutLemmas.{head_size_within, cut_at_grows}
 use Rattle.http1_requests.proofs.BodyLemmas.{ShortCut, cut_at_shorter, ShortEnd, GrowsBy, body_grows, body_shorter}
 
 -- the body has ended

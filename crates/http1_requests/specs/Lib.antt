@@ -2,10 +2,14 @@ pub mod HeadEnd
 pub mod GrammarReading
 pub mod HeadJudgement
 pub mod HeadCauses
+pub mod BodyLengths
+pub mod PartGrowth
 pub mod ChunkedBody
+pub mod ChunkedText
 pub mod FirstHeads
 pub mod ClientRequests
 pub mod RequestGrowth
+pub mod ClientEnd
 pub mod ExampleBytes
 pub mod HeadExamples
 pub mod RequestExamples

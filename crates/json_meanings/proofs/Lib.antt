@@ -39,3 +39,5 @@ pub mod TreeValidLemmas
 pub mod Utf8Lemmas
 -- Types that are written by their fields alone (`types_by_fields_have_no_texts`).
 pub mod TextTypeLemmas
+-- What the texts of well-known types mean is valid (`readings_of_types_give_valid_values`).
+pub mod KnownReadingLemmas

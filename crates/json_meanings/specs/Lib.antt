@@ -14,10 +14,12 @@ pub mod FaultPlaces
 pub mod EnumNames
 pub mod SpelledBytes
 pub mod JsonScalars
+pub mod KnownReadings
 pub mod PartialMessages
 pub mod ReadingSpots
 pub mod SpotTables
 pub mod JsonDenotes
+pub mod TextMeanings
 pub mod FieldFaults
 pub mod ReadingTurns
 pub mod ReadingLaws

@@ -2,10 +2,11 @@
 ghost use Rattle.std.specs.Prelude.{◌≡◌, ◌↔◌, ◌⊎◌, Option, Some, ℕ, ℤ, List, take};
 ghost use Rattle.std.specs.List.{AllByRecursion};
 ghost use Rattle.base64.specs.GeneralPurpose.{IsBytes};
+ghost use Rattle.message_types.specs.Types.{fields_of};
 ghost use Rattle.message_types.specs.declared.fields.Scalar.{Scalar};
 ghost use Rattle.message_types.specs.declared.messages.TypeId.{TypeId};
 ghost use Rattle.message_types.specs.declared.messages.Types.{Types};
-ghost use Rattle.schema.specs.Soundness.{IsSound};
+ghost use Rattle.schema.specs.Soundness.{HasKnownFields, IsSound};
 ghost use Rattle.schema.specs.Validity.{IsValid};
 ghost use Rattle.schema.specs.declared.value.Value.{Value};
 ghost use Rattle.json_events.specs.JsonTree.{Json, Mark};
@@ -16,6 +17,7 @@ ghost use Rattle.json_meanings.specs.FaultPlaces.{Fault};
 ghost use Rattle.json_meanings.specs.FieldFaults.{BeginsTree, BeginsValue, IsFirstFault, tree_tokens};
 ghost use Rattle.json_meanings.specs.FirstLaws.{BeginsValueText, HasTexts, IsAtFirstToken};
 ghost use Rattle.json_meanings.specs.JsonScalars.{IsNumberKind, Schema};
+ghost use Rattle.json_meanings.specs.KnownReadings.{schema_of};
 ghost use Rattle.json_meanings.specs.ReadingLaws.{ReadingLawsHold};
 ghost use Rattle.json_meanings.specs.JsonDenotes.{Denotes};
 ghost use Rattle.json_meanings.specs.ScalarLaws.{NumberLawsHold, RangeLawsHold};
@@ -29,7 +31,7 @@ use json_events::laws::{
     texts_have_one_tree, texts_mean_one_value, written_texts_mean_their_values,
 };
 use json_integers::laws::integers_are_computed;
-use known_types::laws::one_meaning_of_a_text;
+use known_types::laws::{known_values_are_valid, one_meaning_of_a_text};
 
 /// A tree means at most one value, or its tokens have one first fault, which stays whatever follows; and reading them one
 /// after another finds it at its token.
@@ -114,3 +116,17 @@ pub fn read_values_are_valid()
 pub fn types_by_fields_have_no_texts()
     ensures { (types : Types) → AreByFields types ↔ ((id : TypeId) → IsTextType (known_of types id) → ⊥) }
 {}
+
+/// A sound type has exactly the fields of the well-known type that it is.
+pub fn sound_types_have_known_fields()
+    ensures { (types : Types) (id : TypeId) → IsSound types
+        → HasKnownFields (known_of types id) (fields_of types id) }
+{}
+
+/// What the texts of timestamps, durations and field masks mean is valid, where the types are sound: JSON that is read by
+/// the types gives valid values.
+pub fn readings_of_types_give_valid_values()
+    ensures { (types : Types) → IsSound types → GivesValid (schema_of types) }
+{
+    known_values_are_valid();
+}

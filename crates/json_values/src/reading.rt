@@ -1,10 +1,9 @@
 //! Texts of JSON as values, told by the canonical bytes of these.
 ghost use Rattle.std.specs.Prelude.{◌≡◌};
-ghost use Rattle.json_meanings.specs.TextTypes.{AreByFields};
 
 use field_index::IndexedTypes;
+use json_bodies::{BodyFault, read_body};
 use linked_api::Api;
-use protojson_read::{BodyFault, read_body};
 use rows::kept;
 use schema::{TypeId, Value, valid};
 use std::alloc::Global;
@@ -59,10 +58,9 @@ pub(crate) fn put_reading(
     part: Option<u32>,
     text: &[u8],
 ) -> io::Result<()>
-    requires types { AreByFields api.now.types }
     requires indexed { types.now ≡ api.now.types }
 {
-    match read_body(alloc, types, id, part, text) {
+    match read_body(alloc, types, id, part, text, 0) {
         Ok(value) => put_value(alloc, api, out, id, &value),
         Err(fault) => put_fault(alloc, out, fault),
     }

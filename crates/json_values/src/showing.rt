@@ -1,7 +1,6 @@
 //! Values of bytes, told by their texts of JSON.
 ghost use Rattle.std.specs.Prelude.{◌≡◌, IfOk};
 ghost use Rattle.linked_api.specs.LinkedApi.{IsLinked};
-ghost use Rattle.json_meanings.specs.TextTypes.{AreByFields};
 ghost use Rattle.schema.specs.Validity.{IsValid};
 
 use field_index::IndexedTypes;
@@ -60,7 +59,6 @@ pub(crate) fn put_text(
     bytes: &[u8],
 ) -> io::Result<()>
     requires linked { IsLinked api.now }
-    requires types { AreByFields api.now.types }
     requires indexed { types.now ≡ api.now.types }
 {
     let value = match value_of(alloc, api, id, bytes) {

@@ -1,7 +1,6 @@
 //! The answers to lines.
 ghost use Rattle.std.specs.Prelude.{◌≡◌};
 ghost use Rattle.linked_api.specs.LinkedApi.{IsLinked};
-ghost use Rattle.json_meanings.specs.TextTypes.{AreByFields};
 
 use crate::reading::put_reading;
 use crate::showing::put_text;
@@ -29,7 +28,6 @@ fn put_answer(
     row: &mut Row,
 ) -> io::Result<()>
     requires linked { IsLinked api.now }
-    requires types { AreByFields api.now.types }
     requires indexed { types.now ≡ api.now.types }
 {
     let id = next_type(api, row)?;
@@ -54,7 +52,6 @@ pub(crate) fn tell_lines<R: Read + Drop, W: Write>(
     out: &mut W,
 ) -> io::Result<()>
     requires linked { IsLinked api.now }
-    requires types { AreByFields api.now.types }
 {
     let Ok(types) = IndexedTypes::new(alloc, &api.types) else {
         return Err(io::Error::from(io::ErrorKind::OutOfMemory));

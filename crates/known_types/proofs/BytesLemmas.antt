@@ -14,7 +14,7 @@ use Rattle.base64.specs.GeneralPurpose.{IsBytes, IsConsistent, decode_of, encode
 use Rattle.base64.specs.Rfc4648.{encode_symbols, padding_len}
 use Rattle.base64.specs.declared.engine.general_purpose.GeneralPurpose.{GeneralPurpose}
 use Rattle.known_types.specs.declared.fault.TextFault.{TextFault}
-use Rattle.known_types.specs.declared.fault.TextFault.TheVariants.{BadText, NoMemory}
+use Rattle.known_types.specs.declared.fault.TextFault.TheVariants.{BadText, OutOfRange, NoMemory}
 use Rattle.known_types.specs.BytesTexts.{IsBytesReading, IsBytesText, IsEncodingBy, IsReadingBy, IsStandardReading, IsStandardText, bytes_text, has_symbols_for_urls, standard_symbol}
 
 -- a padded encoding has whole groups of four
@@ -71,6 +71,7 @@ read_whole text (Err BadText) whole none = bad
     bad : (b : List ℕ) → IsStandardText text b → ⊥
     bad b (inl e) = none b e
     bad b (inr e) = none b (as_padded text b whole e)
+read_whole text (Err OutOfRange) whole e = absurd e
 read_whole text (Err NoMemory) whole e = tt
 
 -- any other by the unpadded one
@@ -82,6 +83,7 @@ read_rest text (Err BadText) part none = bad
     bad : (b : List ℕ) → IsStandardText text b → ⊥
     bad b (inl e) = part (whole_groups text b e)
     bad b (inr e) = none b e
+read_rest text (Err OutOfRange) part e = absurd e
 read_rest text (Err NoMemory) part e = tt
 
 -- a symbol of a table whose symbols stay is one that stays

@@ -6,7 +6,7 @@ use Rattle.base64.specs.Engines.{standard, standard_no_pad}
 use Rattle.base64.specs.GeneralPurpose.{IsBytes, encode_of}
 use Rattle.base64.specs.declared.engine.general_purpose.GeneralPurpose.{GeneralPurpose}
 use Rattle.known_types.specs.declared.fault.TextFault.{TextFault}
-use Rattle.known_types.specs.declared.fault.TextFault.TheVariants.{BadText, NoMemory}
+use Rattle.known_types.specs.declared.fault.TextFault.TheVariants.{BadText, OutOfRange, NoMemory}
 
 -- the symbol of the standard alphabet (section 4) for the six bits of one of the alphabet for URLs (section 5), whose
 -- `-` and `_` stand for `+` and `/`
@@ -40,10 +40,12 @@ is_written_byte b =
     (nat_le 65 b && nat_le b 90) || ((nat_le 97 b && nat_le b 122) || ((nat_le 48 b && nat_le b 57)
     || (b == 43 || (b == 47 || b == 61))))
 
--- what is read of a text, where `Spells` says which bytes it spells: those bytes, or BadText where it spells none
+-- what is read of a text, where `Spells` says which bytes it spells: those bytes, or BadText where it spells none; it
+-- is never OutOfRange
 abbrev pub IsReading : (List ℕ → Type 0) → Result Blob TextFault → Type 0
 IsReading Spells (Ok bytes) = Spells bytes
 IsReading Spells (Err BadText) = (bytes : List ℕ) → Spells bytes → ⊥
+IsReading Spells (Err OutOfRange) = ⊥
 IsReading Spells (Err NoMemory) = Unit {0}
 
 -- what is read of a text by an engine

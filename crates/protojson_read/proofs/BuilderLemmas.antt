@@ -156,6 +156,12 @@ module _ (laws : (c : Schema) (id : TypeId) (n : Option ℕ) → ReadingLawsHold
       let over = (laws c id n).whole h.levels all.0 (subst (Stands c id n h.levels) (sym all.1) h.stands) in
       h.keeps.1 over.0 over.1
 
+  -- with all tokens of a tree a value has ended
+  pub all_ended : (s : State) (j : Json) → IsBehind part s c id n (tree_tokens j) → HoldsValue s
+  all_ended (Open m) j h = absurd (open_tokens m (tree_tokens j) h (j, refl))
+  all_ended (Ended v) j h = tt
+  all_ended (Refused f) j h = absurd h.keeps
+
   -- a value has ended exactly where its tokens are all those of a tree
   pub whole_is : (s : State) (t : Bool) (ts : List Mark) → (IsTrue t ↔ HoldsValue s) → IsBehind part s c id n ts
       → BeginsTree ts

@@ -4,12 +4,8 @@ pub use Rattle.json_meanings.specs.JsonScalars
 pub use Rattle.scalar_texts.specs.ScalarTexts
 pub use Rattle.scalar_texts.specs.ScalarMeanings
 pub use Rattle.scalar_texts.specs.KeyTexts
-pub mod ReadTypes
 pub mod MessageSeen
 pub mod SpotsSeen
 pub mod TurnsSeen
 pub mod TokenAnswers
 pub mod BuilderReads
-pub mod WholeMessages
-pub mod BodySteps
-pub mod BodyExamples

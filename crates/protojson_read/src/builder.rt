@@ -8,10 +8,9 @@ ghost use Rattle.json_meanings.specs.JsonDenotes.{Denotes, alone, message_in, sp
 ghost use Rattle.json_meanings.specs.ReadingTurns.{Levels as LevelsOf};
 ghost use Rattle.json_meanings.specs.declared.fault.FieldKind.{FieldKind as KindOf};
 ghost use Rattle.json_meanings.specs.JsonScalars.{Schema};
-ghost use Rattle.json_meanings.specs.TextTypes.{AreByFields};
 ghost use Rattle.message_types.specs.declared.messages.TypeId.{TypeId as TypeIdOf};
 ghost use Rattle.protojson_read.specs.BuilderReads.{HasEnded, HoldsValue, IsBehind, IsTokenFault, Keeps, KeepsNext, Reads, fault_by, kept_fault, refusal_of, root_spot};
-ghost use Rattle.protojson_read.specs.ReadTypes.{types_read};
+ghost use Rattle.json_meanings.specs.KnownReadings.{schema_of};
 ghost use Rattle.protojson_read.specs.SpotsSeen.{filled_seen, spot_seen};
 ghost use Rattle.protojson_read.specs.TurnsSeen.{Turns, levels_seen};
 ghost use Rattle.protojson_read.specs.declared.builder.State.TheVariants.{Ended};
@@ -57,7 +56,7 @@ pub struct Builder {
 
 /// The form of the field with a number, where one is asked for and the type has it.
 fn form_at(types: &IndexedTypes<'_>, id: TypeId, part: Option<u32>) -> Option<FieldForm>
-    ensures { root_spot id result ≡ spot_of (types_read types.now) id part }
+    ensures { root_spot id result ≡ spot_of (schema_of types.now) id part }
 {
     match types.field_by_number(id, part?) {
         Some(field) => Some(form_of(field)),
@@ -145,11 +144,11 @@ fn next_state(
     place: u64,
     token: Token,
 ) -> Result<State, FieldFault>
-    ensures ok { (id : TypeIdOf) (n : Option ℕ) (ts : List Mark) → IsBehind part state (types_read types.now) id n ts
-        → IfOk result (λ s. IsBehind part s (types_read types.now) id n (ts ++ mark_seen token ∷ [])) }
-    ensures err { (id : TypeIdOf) (n : Option ℕ) (ts : List Mark) → IsBehind part state (types_read types.now) id n ts
+    ensures ok { (id : TypeIdOf) (n : Option ℕ) (ts : List Mark) → IsBehind part state (schema_of types.now) id n ts
+        → IfOk result (λ s. IsBehind part s (schema_of types.now) id n (ts ++ mark_seen token ∷ [])) }
+    ensures err { (id : TypeIdOf) (n : Option ℕ) (ts : List Mark) → IsBehind part state (schema_of types.now) id n ts
         → BeginsTree (ts ++ mark_seen token ∷ [])
-        → IfErr result (λ f. IsTokenFault f place (types_read types.now) id n ts (mark_seen token)) }
+        → IfErr result (λ f. IsTokenFault f place (schema_of types.now) id n ts (mark_seen token)) }
     ensures sticky { IfSome (kept_fault state) (λ f. result ≡ Err f) }
 {
     readings_hold();
@@ -195,8 +194,7 @@ impl Builder {
         part: Option<u32>,
         place: u64,
     ) -> Result<Builder, NoMemory>
-        requires texts { AreByFields types.now }
-        ensures reads { IfOk result (λ b. Reads b (types_read types.now) id part place []) }
+        ensures reads { IfOk result (λ b. Reads b (schema_of types.now) id part place []) }
     {
         let part = form_at(types, id, part);
         let turn = Turn::WantsValue(root_spot(id, part));
@@ -215,12 +213,12 @@ impl Builder {
     /// `new`.
     pub fn take(&mut self, types: &IndexedTypes<'_>, token: Spanned) -> Result<(), FieldFault>
         ensures ok { (id : TypeIdOf) (n : Option ℕ) (place : ℕ) (ts : List Mark)
-            → Reads self.old (types_read types.now) id n place ts
-            → IfOk result (λ r. Reads self.new (types_read types.now) id n place (ts ++ mark_seen token.token ∷ [])) }
+            → Reads self.old (schema_of types.now) id n place ts
+            → IfOk result (λ r. Reads self.new (schema_of types.now) id n place (ts ++ mark_seen token.token ∷ [])) }
         ensures err { (id : TypeIdOf) (n : Option ℕ) (place : ℕ) (ts : List Mark)
-            → Reads self.old (types_read types.now) id n place ts
+            → Reads self.old (schema_of types.now) id n place ts
             → BeginsTree (ts ++ mark_seen token.token ∷ [])
-            → IfErr result (λ f. IsTokenFault f (saturated (place + token.from)) (types_read types.now) id n ts
+            → IfErr result (λ f. IsTokenFault f (saturated (place + token.from)) (schema_of types.now) id n ts
             (mark_seen token.token)) }
         ensures sticky { IfSome (refusal_of self.old) (λ f. result ≡ Err f) }
         ensures refused { IfErr result (λ f. refusal_of self.new ≡ Some f) }

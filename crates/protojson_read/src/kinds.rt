@@ -4,9 +4,8 @@ ghost use Rattle.json_events.specs.ReaderAnswers.{mark_seen};
 ghost use Rattle.json_meanings.specs.SpotTables.{as_message, in_levels, kind_as, known_as, known_of, message_as, object_by, wrapped, wrapped_scalar, wrapper_as};
 ghost use Rattle.json_meanings.specs.declared.fault.FieldKind.{FieldKind as KindOf};
 ghost use Rattle.message_types.specs.Types.{field_in, fields_of};
-ghost use Rattle.message_types.specs.declared.messages.Known.{Known as KnownOf};
 ghost use Rattle.message_types.specs.declared.messages.Types.{Types as TypesOf};
-ghost use Rattle.protojson_read.specs.ReadTypes.{types_read};
+ghost use Rattle.json_meanings.specs.KnownReadings.{json_known, schema_of};
 ghost use Rattle.protojson_read.specs.TokenAnswers.{Gives, GivesObject, GivesValue};
 ghost use Rattle.schema.specs.Layers.{ItemLayer};
 ghost use Rattle.schema.specs.declared.value.Value.{Value as ValueOf};
@@ -18,6 +17,7 @@ use crate::spots::{Filled, OpenObject, slot_of};
 use field_index::IndexedTypes;
 use json_events::Token;
 use json_meanings::FieldKind;
+use known_types::{TextFault, read_known};
 use schema::{Field, Item, Kind, Known, Scalar, TypeId, Types, Value};
 use std::alloc::Global;
 
@@ -72,7 +72,7 @@ fn wrapper_as(
     token: Token,
 ) -> Result<Value, Refusal>
     ensures { GivesValue result
-        (wrapper_as (types_read types.now) (field_in (fields_of types.now id) 1) (mark_seen token)) }
+        (wrapper_as (schema_of types.now) (field_in (fields_of types.now id) 1) (mark_seen token)) }
 {
     let field = types.field_by_number(id, 1);
     wrapped(
@@ -82,13 +82,24 @@ fn wrapper_as(
     )
 }
 
-/// A token as a well-known type that is written as a text. Such texts are not read yet.
-fn text_type_as(token: &Token) -> Result<Value, Refusal>
-    ensures { (types : TypesOf) (known : KnownOf)
-        → GivesValue result (known_as (types_read types) known (mark_seen token.now)) }
+/// The message that the text of a well-known type means.
+fn text_message(alloc: Global, known: Known, text: &[u8]) -> Result<Value, Refusal>
+    ensures { GivesValue result (json_known known text.now) }
+{
+    match read_known(alloc, known, text) {
+        Ok(value) => Ok(value),
+        Err(TextFault::BadText) => Err(Refusal::Fault(FieldKind::BadText)),
+        Err(TextFault::OutOfRange) => Err(Refusal::Fault(FieldKind::OutOfRange)),
+        Err(TextFault::NoMemory) => Err(Refusal::NoMemory),
+    }
+}
+
+/// A token as a well-known type that is written as a text.
+fn text_type_as(alloc: Global, known: Known, token: &Token) -> Result<Value, Refusal>
+    ensures { (types : TypesOf) → GivesValue result (known_as (schema_of types) known (mark_seen token.now)) }
 {
     match token {
-        Token::Text(_) => Err(Refusal::Fault(FieldKind::BadText)),
+        Token::Text(text) => text_message(alloc, known, text.as_str().as_bytes()),
         _ => Err(Refusal::Fault(FieldKind::WrongShape)),
     }
 }
@@ -115,13 +126,13 @@ fn message_as(
     token: Token,
 ) -> Result<Item, Refusal>
     ensures { Gives result
-        (message_as (types_read types.now) levels (known_of types.now id) (fields_of types.now id) (mark_seen token)) }
+        (message_as (schema_of types.now) levels (known_of types.now id) (fields_of types.now id) (mark_seen token)) }
 {
     match known_of(types.types(), id) {
         Known::Plain => Err(Refusal::Fault(FieldKind::WrongShape)),
         Known::Wrapper => in_levels(levels, wrapper_as(alloc, types, id, token)),
-        Known::Timestamp | Known::Duration | Known::FieldMask => {
-            in_levels(levels, text_type_as(&token))
+        known @ (Known::Timestamp | Known::Duration | Known::FieldMask) => {
+            in_levels(levels, text_type_as(alloc, known, &token))
         }
     }
 }
@@ -134,7 +145,7 @@ pub(crate) fn kind_as(
     kind: Kind,
     token: Token,
 ) -> Result<Item, Refusal>
-    ensures { Gives result (kind_as (types_read types.now) levels kind (mark_seen token)) }
+    ensures { Gives result (kind_as (schema_of types.now) levels kind (mark_seen token)) }
 {
     match kind {
         Kind::One(scalar) => scalar_as(alloc, types, scalar, token),
@@ -149,7 +160,7 @@ pub(crate) fn object_by(
     levels: u8,
     kind: Kind,
 ) -> Result<OpenObject, Refusal>
-    ensures { GivesObject result (object_by (types_read types.now) levels kind) }
+    ensures { GivesObject result (object_by (schema_of types.now) levels kind) }
 {
     match kind {
         Kind::One(_) => Err(Refusal::Fault(FieldKind::WrongShape)),

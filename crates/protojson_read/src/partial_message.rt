@@ -47,7 +47,7 @@ pub(crate) fn form_of(field: &Field) -> FieldForm
 pub(crate) fn form_named(types: &IndexedTypes<'_>, id: TypeId, name: &str) -> Option<FieldForm>
     ensures { option_map form_seen result ≡ option_map form_of (field_named name.now (fields_of types.now id)) }
 {
-    match types.field_by_key(id, name) {
+    match types.field_by_key(id, name.as_bytes()) {
         Some(field) => Some(form_of(field)),
         None => None,
     }

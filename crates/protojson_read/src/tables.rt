@@ -6,7 +6,7 @@ ghost use Rattle.json_meanings.specs.SpotTables.{array_by, as_single, below, ent
 ghost use Rattle.json_meanings.specs.declared.fault.FieldKind.{FieldKind as KindOf};
 ghost use Rattle.message_types.specs.Types.{fields_of};
 ghost use Rattle.protojson_read.specs.MessageSeen.{entries_seen, form_seen, message_seen};
-ghost use Rattle.protojson_read.specs.ReadTypes.{types_read};
+ghost use Rattle.json_meanings.specs.KnownReadings.{schema_of};
 ghost use Rattle.protojson_read.specs.SpotsSeen.{object_seen, spot_seen};
 ghost use Rattle.protojson_read.specs.TokenAnswers.{Fills, Gives, GivesArray, GivesKey, GivesObject, Names};
 ghost use Rattle.schema.specs.Layers.{ItemLayer};
@@ -44,7 +44,7 @@ fn shape_as(
     form: FieldForm,
     token: Token,
 ) -> Result<Filled, Refusal>
-    ensures { Fills result (shape_as (types_read types.now) levels (form_seen form) form.shape (mark_seen token)) }
+    ensures { Fills result (shape_as (schema_of types.now) levels (form_seen form) form.shape (mark_seen token)) }
 {
     match form.shape {
         Shape::Many | Shape::Map(_) => Err(Refusal::Fault(FieldKind::WrongShape)),
@@ -62,7 +62,7 @@ fn field_as(
     token: Token,
 ) -> Result<Filled, Refusal>
     ensures { (p : PartialMessageOf) → is_taken p form.shape ≡ taken
-        → Fills result (field_as (types_read types.now) levels p (form_seen form) (mark_seen token)) }
+        → Fills result (field_as (schema_of types.now) levels p (form_seen form) (mark_seen token)) }
 {
     match token {
         Token::Null => Ok(Filled::Unset),
@@ -79,7 +79,7 @@ fn inner_as(
     kind: Kind,
     token: Token,
 ) -> Result<Filled, Refusal>
-    ensures { Fills result (inner_as (types_read types.now) levels kind (mark_seen token)) }
+    ensures { Fills result (inner_as (schema_of types.now) levels kind (mark_seen token)) }
 {
     match token {
         Token::Null => Err(Refusal::Fault(FieldKind::NullInside)),
@@ -101,7 +101,7 @@ pub(crate) fn fills(
     spot: &Spot,
     token: Token,
 ) -> Result<Filled, Refusal>
-    ensures { Fills result (fills (types_read types.now) (spot_seen spot.now) (mark_seen token)) }
+    ensures { Fills result (fills (schema_of types.now) (spot_seen spot.now) (mark_seen token)) }
 {
     match spot {
         Spot::Whole(levels, id) => {
@@ -159,7 +159,7 @@ fn object_in(
     levels: u8,
     form: FieldForm,
 ) -> Result<OpenObject, Refusal>
-    ensures { GivesObject result (object_in (types_read types.now) levels (form_seen form) form.shape) }
+    ensures { GivesObject result (object_in (schema_of types.now) levels (form_seen form) form.shape) }
 {
     match form.shape {
         Shape::Many => Err(Refusal::Fault(FieldKind::WrongShape)),
@@ -176,7 +176,7 @@ pub(crate) fn opens_object(
     types: &IndexedTypes<'_>,
     spot: &Spot,
 ) -> Result<OpenObject, Refusal>
-    ensures { GivesObject result (opens_object (types_read types.now) (spot_seen spot.now)) }
+    ensures { GivesObject result (opens_object (schema_of types.now) (spot_seen spot.now)) }
 {
     match spot {
         Spot::Whole(levels, id) => object_by(alloc, types, *levels, Kind::Message(*id)),
@@ -280,7 +280,7 @@ pub(crate) fn names_spot(
     object: OpenObject,
     name: Text,
 ) -> Result<Spot, Refusal>
-    ensures { Names result (names_spot (types_read types.now) (object_seen object) name) }
+    ensures { Names result (names_spot (schema_of types.now) (object_seen object) name) }
 {
     match object {
         OpenObject::Message(levels, id, message) => {

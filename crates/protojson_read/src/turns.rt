@@ -4,7 +4,7 @@ ghost use Rattle.json_events.specs.ReaderAnswers.{mark_seen};
 ghost use Rattle.json_meanings.specs.ReadingTurns.{array_turn, close, give, given, object_turn, step, turn_behind, value_turn};
 ghost use Rattle.json_meanings.specs.ReadingSpots.{Filled as FilledOf};
 ghost use Rattle.json_meanings.specs.declared.fault.FieldKind.{FieldKind as KindOf};
-ghost use Rattle.protojson_read.specs.ReadTypes.{types_read};
+ghost use Rattle.json_meanings.specs.KnownReadings.{schema_of};
 ghost use Rattle.protojson_read.specs.SpotsSeen.{array_seen, filled_seen, object_seen, spot_seen};
 ghost use Rattle.protojson_read.specs.TokenAnswers.{Fills};
 ghost use Rattle.protojson_read.specs.TurnsSeen.{Turns, around_seen, levels_seen, turn_seen};
@@ -128,7 +128,7 @@ fn value_turn(
     token: Token,
 ) -> Result<Levels, Refusal>
     ensures { Turns result
-        (value_turn (types_read types.now) (spot_seen spot) (around_seen around.items) (mark_seen token)) }
+        (value_turn (schema_of types.now) (spot_seen spot) (around_seen around.items) (mark_seen token)) }
 {
     match token {
         Token::BeginArray => {
@@ -158,7 +158,7 @@ fn array_turn(
     token: Token,
 ) -> Result<Levels, Refusal>
     ensures { Turns result
-        (array_turn (types_read types.now) (array_seen array) (around_seen around.items) (mark_seen token)) }
+        (array_turn (schema_of types.now) (array_seen array) (around_seen around.items) (mark_seen token)) }
 {
     match token {
         Token::EndArray | Token::EndObject => close(Filled::Many(array.items), around),
@@ -175,7 +175,7 @@ fn object_turn(
     token: Token,
 ) -> Result<Levels, Refusal>
     ensures { Turns result
-        (object_turn (types_read types.now) (object_seen object) (around_seen around.items) (mark_seen token)) }
+        (object_turn (schema_of types.now) (object_seen object) (around_seen around.items) (mark_seen token)) }
 {
     match token {
         Token::EndArray | Token::EndObject => close(object_value(alloc, object)?, around),
@@ -194,7 +194,7 @@ pub(crate) fn step(
     levels: Levels,
     token: Token,
 ) -> Result<Levels, Refusal>
-    ensures { Turns result (step (types_read types.now) (levels_seen levels) (mark_seen token)) }
+    ensures { Turns result (step (schema_of types.now) (levels_seen levels) (mark_seen token)) }
 {
     let Levels { turn, around } = levels;
     match turn {

@@ -4,6 +4,7 @@ mod LevelLemmas
 mod PartLemmas
 mod ShownLemmas
 mod OutputExampleFacts
+mod KnownPlaceFacts
 -- The name of the first value that has a number.
 mod NameLemmas
 -- What is shown is read back (`shown_texts_mean_their_values`): texts of trees, and what stands in quotes as it is.

@@ -23,8 +23,9 @@ messages_hold known = record {
   empty_wrapper = simp (outs-One, outs-Message) refl;
   wrappers = simp (outs-Many, outs-One, outs-Message, outs-Number) refl;
   optional = simp (outs-One, outs-Number) refl;
-  timestamp = refl;
-  unprintable = simp (outs-One, outs-Number, outs-Message) refl;
+  wrappers_by_key = simp (outs-Pairs, outs-One, outs-Message, outs-Number) refl;
+  wrapper_in_a_oneof = simp (outs-One, outs-Message) refl;
+  wrapper_alone = refl;
 }
 
 -- scalars
@@ -63,6 +64,6 @@ parts_hold known = record {
   list_of_one = simp (outs-Many, outs-Number) refl;
   optional = refl;
   beside = simp (outs-One, outs-Number) refl;
-  unprintable = simp (outs-One, outs-Message) refl;
+  unprintable = simp (outs-One, outs-Number, outs-Message) refl;
   no_field = refl;
 }

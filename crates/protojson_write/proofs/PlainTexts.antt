@@ -13,6 +13,7 @@ use Rattle.std.proofs.lemmas.Str.Parse.{digit_from_value}
 use Rattle.json_events.specs.JsonStrings.{IsString}
 use Rattle.json_events.specs.StringOutput.{escape_of, escaped, json_string, must_escape}
 use Rattle.known_types.specs.BytesTexts.{is_written_byte}
+use Rattle.known_types.specs.KnownTexts.{is_plain_byte}
 use Rattle.protojson_write.specs.ScalarOutput.{quoted}
 
 -- a byte that stands for itself
@@ -63,6 +64,29 @@ plain_unescaped (b ∷ t) h =
 pub plain_string : ((t : List ℕ) → IsUtf8 t → IsString t (json_string t)) → (t : List ℕ) → ArePlain t
     → IsString t (quoted t)
 plain_string strings t h = unescaped_string strings t (plain_is_utf8 t h) (plain_unescaped t h)
+
+known_low : (b : ℕ) → is_plain_byte b ≡ true → 32 ≤ b
+known_low b h = grind (arith, nat_tests)
+
+known_high : (b : ℕ) → is_plain_byte b ≡ true → b < 128
+known_high b h = grind (arith, nat_tests)
+
+-- the texts of timestamps, durations and field masks do
+pub known_plain : (t : List ℕ) → list_all is_plain_byte t ≡ true → ArePlain t
+known_plain [] h = tt
+known_plain (b ∷ t) h =
+    let parts = and_parts (is_plain_byte b) (list_all is_plain_byte t) h in (
+      record {
+        low = known_low b parts.0;
+        high = known_high b parts.0;
+        no_quotation_mark = other b 34 parts.0 refl;
+        no_reverse_solidus = other b 92 parts.0 refl;
+      },
+      known_plain t parts.1,
+    )
+  where
+    other : (b n : ℕ) → is_plain_byte b ≡ true → is_plain_byte n ≡ false → b ≢ n
+    other b n h none e = let f = subst (λ x. is_plain_byte x ≡ true) e h in absurd cc
 
 digits_plain : (ds : List ℕ) → AllDigits 10 ds → ArePlain ds
 digits_plain [] h = tt

@@ -13,7 +13,7 @@ use Rattle.message_types.specs.declared.fields.Scalar.{Scalar}
 use Rattle.message_types.specs.declared.fields.Shape.{Shape}
 use Rattle.message_types.specs.declared.fields.Shape.TheVariants.{Single, Member, Many as ManyOf, Map as MapOf}
 use Rattle.message_types.specs.declared.messages.TypeId.{TypeId}
-use Rattle.schema.specs.Soundness.{IsSound, IsSoundField}
+use Rattle.schema.specs.Soundness.{IsSoundField}
 use Rattle.schema.specs.Validity.{IsFieldSlot, valid_within}
 use Rattle.schema.specs.Value.{slot_at, slot_in, slots_of}
 use Rattle.schema.specs.declared.value.Item.TheOpen.{Message}
@@ -29,10 +29,11 @@ use Rattle.json_meanings.specs.JsonScalars.{Schema}
 use Rattle.json_meanings.specs.PartialMessages.{empty_message, form_of, put_field, stored, value_of}
 use Rattle.json_meanings.specs.ReadingLaws.{ReadingLawsHold}
 use Rattle.json_meanings.specs.ReadingSpots.{many, pairs, part, single, unset, whole}
-use Rattle.protojson_write.specs.JsonOutput.{absent_text, field_text, json_text, no_texts, single_default, slot_text, text_within}
+use Rattle.json_meanings.specs.TextMeanings.{BytesMean}
+use Rattle.protojson_write.specs.JsonOutput.{absent_text, field_text, json_text, single_default, slot_text, text_within}
 use Rattle.protojson_write.specs.KnownParts.{KnownTexts, field_parts, have_texts, parts_within}
 use Rattle.protojson_write.specs.ScalarOutput.{default_of, scalar_text}
-use Rattle.protojson_write.specs.ShownMeans.{HasUtf8Names, IsReadBack, IsShowable, MeansValue, SlotHoldsBytes, holds_bytes_within, shown_part, with_field}
+use Rattle.protojson_write.specs.ShownMeans.{IsReadBack, IsShowable, SlotHoldsBytes, holds_bytes_within, shown_part, with_field}
 use Rattle.protojson_write.proofs.ShownFields.{found_all, found_number, good_fields}
 use Rattle.protojson_write.proofs.ShownLists.{list_shown, map_shown}
 use Rattle.protojson_write.proofs.ShownMembers.{HasSlotTree}
@@ -72,13 +73,13 @@ module _ (laws : ScalarsAreReadBack) (texts : KnownTexts) (c : Schema) (rests : 
   -- the text of a message
   whole_means : (id : TypeId) (v : Value) (w : List ℕ) → IsShowable c.types id v
       → json_text texts c.types id None v ≡ Some w
-      → MeansValue c id None w v
+      → BytesMean c id None w v
   unfolding json_text
   whole_means id v w showable e = by_test (have_texts texts (parts_within 100 c.types id v)) refl e
     where
       by_test : (b : Bool) → have_texts texts (parts_within 100 c.types id v) ≡ b
           → cond b (Some (text_within texts 100 c.types id v)) None ≡ Some w
-          → MeansValue c id None w v
+          → BytesMean c id None w v
       by_test false has q = absurd cc
       by_test true has q =
           let shown =
@@ -94,7 +95,7 @@ module _ (laws : ScalarsAreReadBack) (texts : KnownTexts) (c : Schema) (rests : 
   -- what is read at the spot of a field alone
   field_means : (id : TypeId) (n : ℕ) (f : Field) (w : List ℕ) (o : Option Slot)
       → field_in (fields_of c.types id) n ≡ Some f → HasSlotTree c (form_of f) (part 99 (form_of f)) w o
-      → MeansValue c id (Some n) w (with_field n o)
+      → BytesMean c id (Some n) w (with_field n o)
   field_means id n f w o found t = (
     t.has.tree,
     text_of_tree t.has.tree w t.has.text,
@@ -180,7 +181,7 @@ module _ (laws : ScalarsAreReadBack) (texts : KnownTexts) (c : Schema) (rests : 
   -- the text of one field
   part_means : (id : TypeId) (n : ℕ) (v : Value) (w : List ℕ) → IsShowable c.types id v
       → json_text texts c.types id (Some n) v ≡ Some w
-      → MeansValue c id (Some n) w (with_field n (slot_at v n))
+      → BytesMean c id (Some n) w (with_field n (slot_at v n))
   unfolding json_text
   part_means id n v w showable e =
       by_field (field_in (fields_of c.types id) n) (slot_at v n) refl refl e
@@ -188,20 +189,20 @@ module _ (laws : ScalarsAreReadBack) (texts : KnownTexts) (c : Schema) (rests : 
       by_test : (f : Field) (s : Slot) → field_in (fields_of c.types id) n ≡ Some f → slot_at v n ≡ Some s
           → (b : Bool) → have_texts texts (field_parts (parts_within 99 c.types) (Some f) s) ≡ b
           → cond b (Some (slot_text (text_within texts 99 c.types) c.types f.kind (out-Slot s))) None ≡ Some w
-          → MeansValue c id (Some n) w (with_field n (Some s))
+          → BytesMean c id (Some n) w (with_field n (Some s))
       by_test f s found at false has q = absurd cc
       by_test f s found at true has q =
           let same : slot_text (text_within texts 99 c.types) c.types f.kind (out-Slot s) ≡ w = cc q in
-          subst (λ t. MeansValue c id (Some n) t (with_field n (Some s))) same
+          subst (λ t. BytesMean c id (Some n) t (with_field n (Some s))) same
           (field_means id n f _ (Some s) found (present_means id n v f s showable found at has))
 
       by_field : (o : Option Field) (s : Option Slot) → field_in (fields_of c.types id) n ≡ o → slot_at v n ≡ s
           → field_text texts 99 c.types o s ≡ Some w
-          → MeansValue c id (Some n) w (with_field n s)
+          → BytesMean c id (Some n) w (with_field n s)
       by_field None s found at q = absurd cc
       by_field (Some f) None found at q =
           let same : absent_text c.types f f.shape ≡ w = cc q in
-          subst (λ t. MeansValue c id (Some n) t (with_field n None)) same
+          subst (λ t. BytesMean c id (Some n) t (with_field n None)) same
           (field_means id n f (absent_text c.types f f.shape) None found (absent_means f))
       by_field (Some f) (Some s) found at q =
           by_test f s found at (have_texts texts (field_parts (parts_within 99 c.types) (Some f) s)) refl q
@@ -209,7 +210,7 @@ module _ (laws : ScalarsAreReadBack) (texts : KnownTexts) (c : Schema) (rests : 
   -- the text of a value, or of one field of it
   pub shown_means : (id : TypeId) (n : Option ℕ) (v : Value) (w : List ℕ) → IsShowable c.types id v
       → json_text texts c.types id n v ≡ Some w
-      → MeansValue c id n w (shown_part n v)
+      → BytesMean c id n w (shown_part n v)
   shown_means id None v w showable e = whole_means id v w showable e
   shown_means id (Some n) v w showable e = part_means id n v w showable e
 
@@ -217,7 +218,7 @@ module _ (laws : ScalarsAreReadBack) (texts : KnownTexts) (c : Schema) (rests : 
       (readings : (c : Schema) (id : TypeId) (n : Option ℕ) → ReadingLawsHold c id n) where
     -- means nothing else
     pub shown_alone : (id : TypeId) (n : Option ℕ) (v u : Value) (w : List ℕ) → IsShowable c.types id v
-        → json_text texts c.types id n v ≡ Some w → MeansValue c id n w u
+        → json_text texts c.types id n v ≡ Some w → BytesMean c id n w u
         → u ≡ shown_part n v
     shown_alone id n v u w showable e other =
         let first = shown_means id n v w showable e in
@@ -239,10 +240,3 @@ module _ (laws : ScalarsAreReadBack) (texts : KnownTexts) (c : Schema) (rests : 
         → slot_at v n ≡ slot_at u n
     field_once id n v u w first second e d =
         same_field n (slot_at v n) (slot_at u n) (shown_once id (Some n) v u w first second e d)
-
--- where nothing has a text of its own, all that have one are read back
-pub plain_rests : (c : Schema) → IsSound c.types → HasUtf8Names c.types → IsReadBack no_texts c
-plain_rests c sound utf8 = record { sound = sound; names = utf8; agree = λ id k v t kind valid e. absurd (none t e) }
-  where
-    none : (t : List ℕ) → ◌≡◌ {A = Option (List ℕ)} None (Some t) → ⊥
-    none t e = cc e

@@ -3,6 +3,7 @@
 use Rattle.std.specs.Prelude.{◌++◌, ℕ, zero, suc, List, [], ◌∷◌, Option, Some, None, if◌then◌else◌, codes, unwrap_or}
 use Rattle.std.specs.List.{flat_map}
 use Rattle.json_events.specs.StringOutput.{json_string}
+use Rattle.known_types.specs.KnownTexts.{known_text}
 use Rattle.message_types.specs.Types.{field_in, fields_of}
 use Rattle.message_types.specs.declared.fields.Field.{Field}
 use Rattle.message_types.specs.declared.fields.Kind.{Kind}
@@ -113,10 +114,6 @@ json_text texts types id None v =
     if have_texts texts (parts_within 100 types id v) then Some (text_within texts 100 types id v) else None
 json_text texts types id (Some n) v = field_text texts 99 types (field_in (fields_of types id) n) (slot_at v n)
 
--- timestamps, durations and field masks have no text yet
-abbrev pub no_texts : KnownTexts
-no_texts known v = None
-
--- the text of a value, or of one field, where those have none
+-- the text of a value, or of one field
 abbrev pub text_of : Types → TypeId → Option ℕ → Value → Option (List ℕ)
-text_of types id part v = json_text no_texts types id part v
+text_of types id part v = json_text known_text types id part v

@@ -1,6 +1,7 @@
 pub use Rattle.json_meanings.specs.EnumNames
 pub use Rattle.json_meanings.specs.JsonScalars
 pub use Rattle.json_meanings.specs.SpotTables
+pub use Rattle.json_meanings.specs.TextMeanings
 pub mod ScalarOutput
 pub mod KnownParts
 pub mod JsonOutput
@@ -9,3 +10,4 @@ pub mod WriterTexts
 pub mod OutputExamples
 pub mod ShownMeans
 pub mod ShownExamples
+pub mod KnownPlaces

@@ -15,7 +15,7 @@ use Rattle.schema.specs.declared.key.Key.TheVariants.{Number as NumberKey, Truth
 use Rattle.schema.specs.declared.value.Item.{Item, Number, Truth, Text, Bytes, Message}
 use Rattle.schema.specs.declared.value.Slot.{Slot, One, Many, Pairs}
 use Rattle.schema.specs.declared.value.Value.{Value}
-use Rattle.protojson_write.specs.JsonOutput.{json_text, no_texts}
+use Rattle.protojson_write.specs.JsonOutput.{text_of}
 
 -- a field with its name and its JSON name
 abbrev pub named_field : List ℕ → List ℕ → ℕ → Kind → Shape → Presence → Field
@@ -57,6 +57,8 @@ book_types = record {
         ∷ field (codes "sfixed64") 25 (OneOf Sfixed64) Single Implicit
         ∷ field (codes "prices") 26 (MessageOf (record { 0 = 1 })) ManyOf Implicit
         ∷ field (codes "made") 27 (MessageOf (record { 0 = 2 })) Single Explicit
+        ∷ field (codes "tolls") 28 (MessageOf (record { 0 = 1 })) (MapOf BoolOf) Implicit
+        ∷ field (codes "fee") 29 (MessageOf (record { 0 = 1 })) (Member 0) Explicit
         ∷ [];
   } ∷ record {
     name = codes "google.protobuf.Int64Value";
@@ -79,11 +81,11 @@ book_types = record {
 
 -- the text of a book with these slots
 abbrev pub book_text : List (ℕ × Slot) → Option (List ℕ)
-book_text slots = json_text no_texts book_types (record { 0 = 0 }) None (record { fields = slots })
+book_text slots = text_of book_types (record { 0 = 0 }) None (record { fields = slots })
 
 -- the text of one field of it
 abbrev pub field_of_book : ℕ → List (ℕ × Slot) → Option (List ℕ)
-field_of_book n slots = json_text no_texts book_types (record { 0 = 0 }) (Some n) (record { fields = slots })
+field_of_book n slots = text_of book_types (record { 0 = 0 }) (Some n) (record { fields = slots })
 
 -- an empty message
 abbrev pub nothing : Value
@@ -96,6 +98,10 @@ holding slots = Message (record { fields = slots })
 -- a slot that is a map with these entries
 abbrev pub map_of : List (Key × Item) → Slot
 map_of entries = Pairs (record { entries = entries })
+
+-- the slots of an instant that has no text: it is past the year 9999
+abbrev pub far : List (ℕ × Slot)
+far = (1, One (Number (pos 253402300800))) ∷ []
 
 -- messages: their members by number, maps by key, and one in another
 pub record MessageExamplesHold : Type 0 where
@@ -124,8 +130,14 @@ pub record MessageExamplesHold : Type 0 where
       book_text ((26, Many (holding [] ∷ holding ((1, One (Number (pos 7))) ∷ []) ∷ [])) ∷ [])
       ≡ Some (codes "{\"prices\":[\"0\",\"7\"]}")
   pub optional : book_text ((19, One (Number (pos 0))) ∷ []) ≡ Some (codes "{\"pageCount\":0}")
-  pub timestamp : json_text no_texts book_types (record { 0 = 2 }) None nothing ≡ None
-  pub unprintable : book_text ((3, One (Number (pos 1))) ∷ (27, One (holding [])) ∷ []) ≡ None
+  pub wrappers_by_key :
+      book_text ((
+        28,
+        map_of ((TruthKey false, holding []) ∷ (TruthKey true, holding ((1, One (Number (pos 7))) ∷ [])) ∷ []),
+      ) ∷ [])
+      ≡ Some (codes "{\"tolls\":{\"false\":\"0\",\"true\":\"7\"}}")
+  pub wrapper_in_a_oneof : book_text ((29, One (holding [])) ∷ []) ≡ Some (codes "{\"fee\":\"0\"}")
+  pub wrapper_alone : text_of book_types (record { 0 = 1 }) None nothing ≡ Some (codes "\"0\"")
 
 -- scalars: escapes, numbers in quotes, and an enum's number without a name
 pub record ScalarExamplesHold : Type 0 where
@@ -156,9 +168,9 @@ pub record PartExamplesHold : Type 0 where
   pub member : field_of_book 10 [] ≡ Some (codes "null")
   pub truth : field_of_book 12 [] ≡ Some (codes "false")
   pub message : field_of_book 14 [] ≡ Some (codes "null")
-  pub int64 : json_text no_texts book_types (record { 0 = 1 }) (Some 1) nothing ≡ Some (codes "\"0\"")
+  pub int64 : text_of book_types (record { 0 = 1 }) (Some 1) nothing ≡ Some (codes "\"0\"")
   pub list_of_one : field_of_book 4 ((4, Many (Number (pos 0) ∷ [])) ∷ []) ≡ Some (codes "[\"0\"]")
   pub optional : field_of_book 19 [] ≡ Some (codes "null")
-  pub beside : field_of_book 3 ((3, One (Number (pos 1))) ∷ (27, One (holding [])) ∷ []) ≡ Some (codes "1")
-  pub unprintable : field_of_book 27 ((27, One (holding [])) ∷ []) ≡ None
+  pub beside : field_of_book 3 ((3, One (Number (pos 1))) ∷ (27, One (holding far)) ∷ []) ≡ Some (codes "1")
+  pub unprintable : field_of_book 27 ((27, One (holding far)) ∷ []) ≡ None
   pub no_field : field_of_book 1 [] ≡ None

@@ -1,5 +1,5 @@
 -- Worked examples of values that are shown, and of the trees of their texts, which are read as the values again.
-use Rattle.std.specs.Prelude.{◌≡◌, ◌^◌, ◌-◌, ℕ, pos, negsuc, true, List, [], ◌∷◌, codes, Option, Some, None, Ok, Err}
+use Rattle.std.specs.Prelude.{◌≡◌, ◌^◌, ◌-◌, ℕ, pos, negsuc, true, List, [], ◌∷◌, codes, Option, Some, None, Ok}
 use Rattle.message_types.specs.declared.fields.Kind.TheVariants.{One as OneOf}
 use Rattle.message_types.specs.declared.fields.Field.{Field}
 use Rattle.message_types.specs.declared.fields.Presence.TheVariants.{Implicit, Explicit}
@@ -18,8 +18,8 @@ use Rattle.json_events.specs.JsonTree.{Json, literal, number, string, array, obj
 use Rattle.json_events.specs.declared.state.Name.TheVariants as names
 use Rattle.json_meanings.specs.ExampleTypes.{book, book_types, field_as_named, field_with, one_pair, one_slot, only, scalar_field, two_pairs, type_at}
 use Rattle.json_meanings.specs.JsonDenotes.{reading}
-use Rattle.json_meanings.specs.declared.fault.FieldKind.TheVariants.{BadText}
-use Rattle.protojson_write.specs.JsonOutput.{json_text, no_texts}
+use Rattle.json_meanings.specs.KnownReadings.{schema_of}
+use Rattle.protojson_write.specs.JsonOutput.{text_of}
 use Rattle.protojson_write.specs.ShownMeans.{shown_part}
 
 -- shelves, whose fields are declared from the last number to the first; the kinds of shelves are NONE 0, NOVEL 1,
@@ -45,11 +45,11 @@ shelf_types = record {
   } ∷ [];
 }
 
--- the value has this text, and this tree is read as what is shown of it; no text of a well-known type is read
+-- the value has this text, and this tree is read as what is shown of it
 pub record IsShownAndRead (types : Types) (id : TypeId) (part : Option ℕ) (v : Value) (text : List ℕ)
     (j : Json) : Type 0 where
-  pub shown : json_text no_texts types id part v ≡ Some text
-  pub read : reading (record { types = types; known = λ known t. Err BadText }) id part j ≡ Ok (shown_part part v)
+  pub shown : text_of types id part v ≡ Some text
+  pub read : reading (schema_of types) id part j ≡ Ok (shown_part part v)
 
 -- a message with these slots
 abbrev pub message_with : List (ℕ × Slot) → Value

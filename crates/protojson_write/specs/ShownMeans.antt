@@ -5,9 +5,6 @@ use Rattle.std.specs.List.{AllByRecursion}
 use Rattle.std.specs.Str.{IsUtf8}
 use Rattle.base.specs.Bytes.{AreBytes}
 use Rattle.json_events.specs.JsonStrings.{IsString}
-use Rattle.json_events.specs.JsonText.{IsTextOf}
-use Rattle.json_events.specs.JsonTree.{Json}
-use Rattle.json_meanings.specs.JsonDenotes.{Denotes}
 use Rattle.json_meanings.specs.JsonScalars.{Schema}
 use Rattle.json_meanings.specs.SpotTables.{known_of}
 use Rattle.json_meanings.specs.TextTypes.{IsTextType}
@@ -78,10 +75,6 @@ with_field n (Some s) = record { fields = (n, s) ∷ [] }
 abbrev pub shown_part : Option ℕ → Value → Value
 shown_part None v = v
 shown_part (Some n) v = with_field n (slot_at v n)
-
--- the bytes are a text of a tree that means the value
-abbrev pub MeansValue : Schema → TypeId → Option ℕ → List ℕ → Value → Type 0
-MeansValue c id part bytes v = (j : Json) × IsTextOf j bytes × Denotes c id part j v
 
 -- what the law rests on: sound types with names in UTF-8, and texts that are read back
 pub record IsReadBack (texts : KnownTexts) (c : Schema) : Type 0 where

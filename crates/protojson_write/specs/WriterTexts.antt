@@ -2,6 +2,7 @@
 use Rattle.std.specs.Prelude.{◌+◌, ◌++◌, ℕ, List, Option, Result, IfErr}
 use denote.Ref.{Bor}
 use Rattle.std.specs.Option.{option_copied}
+use Rattle.known_types.specs.KnownTexts.{known_text}
 use Rattle.message_types.specs.Types.{field_in}
 use Rattle.message_types.specs.declared.fields.Field.{Field}
 use Rattle.message_types.specs.declared.fields.Kind.{Kind}
@@ -12,13 +13,13 @@ use Rattle.schema.specs.declared.value.Slot.{out-Slot, Slot}
 use Rattle.schema.specs.declared.value.Value.{Value}
 use Rattle.protojson_write.specs.declared.fault.ShowFault.{ShowFault}
 use Rattle.protojson_write.specs.declared.within.Within.{Within}
-use Rattle.protojson_write.specs.JsonOutput.{entry_text, followers, item_text, member_text, members_text, no_texts, object_text}
+use Rattle.protojson_write.specs.JsonOutput.{entry_text, followers, item_text, member_text, members_text, object_text}
 use Rattle.protojson_write.specs.JsonOutput.{part_text, separated, slot_text, text_within}
 use Rattle.protojson_write.specs.ShowAnswers.{IsStop}
 
 -- a message
 abbrev pub message_of : Within → TypeId → Value → List ℕ
-message_of w = text_within no_texts w.level w.types.now
+message_of w = text_within known_text w.level w.types.now
 
 -- an item
 abbrev pub item_of : Within → Kind → Item → List ℕ

@@ -8,7 +8,7 @@ use std::alloc::{AllocError, AllocFailed};
 /// Why a value is not shown.
 #[derive(Clone, Copy, Debug, PartialEq, Eq)]
 pub enum ShowFault {
-    /// It has no text: the type has no field of this number.
+    /// It has no text: the type has no field of this number, or a timestamp, a duration or a field mask in it has none.
     Unprintable,
     /// Its text has more bytes than the limit.
     TooLong,

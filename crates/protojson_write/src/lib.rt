@@ -1,15 +1,19 @@
 //! Messages as JSON (the ProtoJSON guide): the text of a value, and the call that appends it.
 //!
-//! Timestamps, durations and field masks are not written yet. Begin with `show`.
+//! A value that has no text is told before anything is written. Begin with `show`.
 #![tactic(auto)]
 
 mod absent;
 pub mod examples;
 mod fault;
+mod known;
 pub mod laws;
+mod printable;
 mod room;
 mod scalars;
 mod shown;
+#[cfg(test)]
+mod tests;
 mod within;
 mod writer;
 

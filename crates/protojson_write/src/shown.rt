@@ -1,26 +1,27 @@
 //! The text of a value, appended within a limit.
-ghost use Rattle.std.specs.Prelude.{◌≡◌, length, Some, None, OnOk, OnErr, IfErr};
+ghost use Rattle.std.specs.Prelude.{◌≡◌, true, length, Some, None, OnOk, OnErr, IfErr};
+ghost use Rattle.std.specs.Option.{is_some};
 ghost use Rattle.base.specs.Extends.{Extends};
 ghost use Rattle.protojson_write.specs.JsonOutput.{text_of};
-ghost use Rattle.json_meanings.specs.TextTypes.{AreByFields};
 ghost use Rattle.protojson_write.specs.ShowAnswers.{IsRefusal, IsShown};
 ghost use Rattle.schema.specs.Validity.{IsValid};
 
 use crate::fault::ShowFault;
+use crate::printable::has_text;
 use crate::room::check;
 use crate::within::Within;
 use crate::writer::{put_message, put_part};
 use field_index::IndexedTypes;
 use schema::{MAX_LEVELS, TypeId, Value};
 
-/// Appends a message. A part may stand where it is refused.
+/// Appends a message that has a text. A part may stand where it is refused.
 fn put_whole(
     out: &mut Vec<u8>,
     within: Within<'_, '_>,
     id: TypeId,
     value: &Value,
 ) -> Result<(), ShowFault>
-    requires types { AreByFields within.types.now }
+    requires printable { is_some (text_of within.types.now id None value.now) ≡ true }
     requires level { within.level ≡ 100 }
     requires start { within.start ≡ length out.old.items }
     ensures ok { OnOk result
@@ -33,7 +34,7 @@ fn put_whole(
     check(out, within)
 }
 
-/// Appends one field of a message, with its slot or without. A part may stand where it is refused.
+/// Appends one field of a message that has a text, with its slot or without. A part may stand where it is refused.
 fn put_field(
     out: &mut Vec<u8>,
     within: Within<'_, '_>,
@@ -41,7 +42,7 @@ fn put_field(
     number: u32,
     value: &Value,
 ) -> Result<(), ShowFault>
-    requires types { AreByFields within.types.now }
+    requires printable { is_some (text_of within.types.now id (Some number) value.now) ≡ true }
     requires level { within.level ≡ 100 }
     requires start { within.start ≡ length out.old.items }
     ensures ok { OnOk result
@@ -51,20 +52,18 @@ fn put_field(
         (IsRefusal (text_of within.entry.types.now id (Some number) value.now) within.entry.limit) }
     ensures err { OnErr result (Extends out.old.items out.new.items) }
 {
-    let Some(field) = within.types.fields(id).by_number(number) else {
-        return Err(ShowFault::Unprintable);
-    };
     let inner = Within {
         level: within.level - 1,
         ..within
     };
-    put_part(out, inner, Some(field), value.get(number))?;
+    let field = within.types.fields(id).by_number(number);
+    put_part(out, inner, field, value.get(number))?;
     check(out, within)
 }
 
-/// Appends the text of a valid value of the type, or of its one field of the number `part`: Unprintable where the type
-/// has no such field. TooLong where the text alone has over `limit` bytes. Until timestamps, durations and field masks
-/// have texts, no type is one. With every refusal, `out` is as before.
+/// Appends the text of a valid value of the type, or of its one field of the number `part`. Unprintable where there is
+/// none, whatever the limit: the type has no such field, or a timestamp, a duration or a field mask in it has no text.
+/// TooLong where the text alone has over `limit` bytes. With every refusal, `out` is as before.
 pub fn show(
     types: &IndexedTypes<'_>,
     id: TypeId,
@@ -73,12 +72,14 @@ pub fn show(
     limit: u64,
     out: &mut Vec<u8>,
 ) -> Result<(), ShowFault>
-    requires types { AreByFields types.now }
     requires valid { IsValid types.now id value.now }
     ensures ok { OnOk result (IsShown (text_of types.now id part value.now) limit out.old.items out.new.items) }
     ensures refusal { IfErr result (IsRefusal (text_of types.now id part value.now) limit) }
     ensures err { OnErr result (out.new.items ≡ out.old.items) }
 {
+    if !has_text(types, id, part, value) {
+        return Err(ShowFault::Unprintable);
+    }
     let start = out.len();
     let within = Within {
         types,

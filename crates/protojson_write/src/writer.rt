@@ -9,13 +9,12 @@ ghost use Rattle.schema.specs.Value.{slot_at};
 ghost use Rattle.schema.specs.declared.value.Item.{out-Item};
 ghost use Rattle.schema.specs.declared.value.Slot.{out-Slot, Slot as SlotOf};
 ghost use Rattle.protojson_write.specs.JsonOutput.{absent_text, array_text, object_text, single_default};
-ghost use Rattle.json_meanings.specs.SpotTables.{known_of};
-ghost use Rattle.json_meanings.specs.TextTypes.{AreByFields};
 ghost use Rattle.protojson_write.specs.ShowAnswers.{IsStop};
 ghost use Rattle.protojson_write.specs.WriterTexts.{MayStop, entry_of, item_of, items_of, member_of, members_of, message_of, object_of, other_items_of, other_members_of, other_pairs_of, pairs_of, part_of, slot_of};
 
 use crate::absent::put_absent;
 use crate::fault::ShowFault;
+use crate::known::{find_known, put_known};
 use crate::room::put_comma;
 use crate::scalars::{put_key, put_scalar};
 use crate::within::Within;
@@ -31,7 +30,6 @@ fn put_item(
     kind: Kind,
     item: &Item,
 ) -> Result<(), ShowFault>
-    requires { AreByFields within.types.now }
     ensures ok { OnOk result (out.new.items ≡ out.old.items ++ item_of within.entry kind item.now) }
     ensures err { OnErr result (Extends out.old.items out.new.items) }
     ensures stop { MayStop within.entry out.old.items (item_of within.entry kind item.now) result }
@@ -51,7 +49,6 @@ fn put_other_items(
     kind: Kind,
     items: &[Item],
 ) -> Result<(), ShowFault>
-    requires { AreByFields within.types.now }
     ensures ok { OnOk result (out.new.items ≡ out.old.items ++ other_items_of within.entry kind items.now) }
     ensures err { OnErr result (Extends out.old.items out.new.items) }
     ensures stop { MayStop within.entry out.old.items (other_items_of within.entry kind items.now) result }
@@ -71,7 +68,6 @@ fn put_items(
     kind: Kind,
     items: &[Item],
 ) -> Result<(), ShowFault>
-    requires { AreByFields within.types.now }
     ensures ok { OnOk result (out.new.items ≡ out.old.items ++ items_of within.entry kind items.now) }
     ensures err { OnErr result (Extends out.old.items out.new.items) }
     ensures stop { MayStop within.entry out.old.items (items_of within.entry kind items.now) result }
@@ -91,7 +87,6 @@ fn put_array(
     kind: Kind,
     items: &[Item],
 ) -> Result<(), ShowFault>
-    requires { AreByFields within.types.now }
     ensures ok { OnOk result (out.new.items ≡ out.old.items ++ array_text (items_of within.entry kind items.now)) }
     ensures err { OnErr result (Extends out.old.items out.new.items) }
     ensures stop { MayStop within.entry out.old.items (array_text (items_of within.entry kind items.now)) result }
@@ -111,7 +106,6 @@ fn put_entry(
     key: &Key,
     item: &Item,
 ) -> Result<(), ShowFault>
-    requires { AreByFields within.types.now }
     ensures ok { OnOk result (out.new.items ≡ out.old.items ++ entry_of within.entry kind (key.now, item.now)) }
     ensures err { OnErr result (Extends out.old.items out.new.items) }
     ensures stop { MayStop within.entry out.old.items (entry_of within.entry kind (key.now, item.now)) result }
@@ -129,7 +123,6 @@ fn put_other_entries(
     kind: Kind,
     entries: &[(Key, Item)],
 ) -> Result<(), ShowFault>
-    requires { AreByFields within.types.now }
     ensures ok { OnOk result (out.new.items ≡ out.old.items ++ other_pairs_of within.entry kind entries.now) }
     ensures err { OnErr result (Extends out.old.items out.new.items) }
     ensures stop { MayStop within.entry out.old.items (other_pairs_of within.entry kind entries.now) result }
@@ -149,7 +142,6 @@ fn put_entries(
     kind: Kind,
     entries: &[(Key, Item)],
 ) -> Result<(), ShowFault>
-    requires { AreByFields within.types.now }
     ensures ok { OnOk result (out.new.items ≡ out.old.items ++ pairs_of within.entry kind entries.now) }
     ensures err { OnErr result (Extends out.old.items out.new.items) }
     ensures stop { MayStop within.entry out.old.items (pairs_of within.entry kind entries.now) result }
@@ -169,7 +161,6 @@ fn put_map(
     kind: Kind,
     entries: &[(Key, Item)],
 ) -> Result<(), ShowFault>
-    requires { AreByFields within.types.now }
     ensures ok { OnOk result (out.new.items ≡ out.old.items ++ object_text (pairs_of within.entry kind entries.now)) }
     ensures err { OnErr result (Extends out.old.items out.new.items) }
     ensures stop { MayStop within.entry out.old.items (object_text (pairs_of within.entry kind entries.now)) result }
@@ -188,7 +179,6 @@ fn put_slot(
     kind: Kind,
     slot: &Slot,
 ) -> Result<(), ShowFault>
-    requires { AreByFields within.types.now }
     ensures ok { OnOk result (out.new.items ≡ out.old.items ++ slot_of within.entry kind slot.now) }
     ensures err { OnErr result (Extends out.old.items out.new.items) }
     ensures stop { MayStop within.entry out.old.items (slot_of within.entry kind slot.now) result }
@@ -208,7 +198,6 @@ fn put_member(
     field: Option<&Field>,
     slot: &Slot,
 ) -> Result<(), ShowFault>
-    requires { AreByFields within.types.now }
     ensures ok { OnOk result (out.new.items ≡ out.old.items ++ member_of within.entry field.entry slot.now) }
     ensures err { OnErr result (Extends out.old.items out.new.items) }
     ensures stop { MayStop within.entry out.old.items (member_of within.entry field.entry slot.now) result }
@@ -227,7 +216,6 @@ fn put_other_members(
     fields: &IndexedFields<'_>,
     slots: &[(u32, Slot)],
 ) -> Result<(), ShowFault>
-    requires { AreByFields within.types.now }
     ensures ok { OnOk result (out.new.items ≡ out.old.items ++ other_members_of within.entry fields.now slots.now) }
     ensures err { OnErr result (Extends out.old.items out.new.items) }
     ensures stop { MayStop within.entry out.old.items (other_members_of within.entry fields.now slots.now) result }
@@ -247,7 +235,6 @@ fn put_members(
     fields: &IndexedFields<'_>,
     slots: &[(u32, Slot)],
 ) -> Result<(), ShowFault>
-    requires { AreByFields within.types.now }
     ensures ok { OnOk result (out.new.items ≡ out.old.items ++ members_of within.entry fields.now slots.now) }
     ensures err { OnErr result (Extends out.old.items out.new.items) }
     ensures stop { MayStop within.entry out.old.items (members_of within.entry fields.now slots.now) result }
@@ -267,7 +254,6 @@ fn put_object(
     fields: &IndexedFields<'_>,
     slots: &[(u32, Slot)],
 ) -> Result<(), ShowFault>
-    requires { AreByFields within.types.now }
     ensures ok { OnOk result (out.new.items ≡ out.old.items ++ object_of within.entry fields.now slots.now) }
     ensures err { OnErr result (Extends out.old.items out.new.items) }
     ensures stop { MayStop within.entry out.old.items (object_of within.entry fields.now slots.now) result }
@@ -286,7 +272,6 @@ pub(crate) fn put_part(
     field: Option<&Field>,
     slot: Option<&Slot>,
 ) -> Result<(), ShowFault>
-    requires { AreByFields within.types.now }
     ensures ok { OnOk result (out.new.items ≡ out.old.items ++ part_of within.entry field.entry
         slot.entry) }
     ensures err { OnErr result (Extends out.old.items out.new.items) }
@@ -300,16 +285,6 @@ pub(crate) fn put_part(
     }
 }
 
-/// Which well-known type a message type is.
-fn find_known(types: &IndexedTypes<'_>, id: TypeId) -> Known
-    ensures { result ≡ known_of types.now id }
-{
-    match types.types().messages.get(id.0 as usize) {
-        Some(message) => message.known,
-        None => Known::Plain,
-    }
-}
-
 /// Appends a message of so many levels.
 #[cycle(put)]
 pub(crate) fn put_message(
@@ -318,7 +293,6 @@ pub(crate) fn put_message(
     id: TypeId,
     value: &Value,
 ) -> Result<(), ShowFault>
-    requires { AreByFields within.types.now }
     ensures ok { OnOk result (out.new.items ≡ out.old.items ++ message_of within.entry id value.now) }
     ensures err { OnErr result (Extends out.old.items out.new.items) }
     ensures stop { MayStop within.entry out.old.items (message_of within.entry id value.now) result }
@@ -331,9 +305,10 @@ pub(crate) fn put_message(
         ..within
     };
     let fields = within.types.fields(id);
-    match find_known(within.types, id) {
+    let known = find_known(within.types, id);
+    match known {
         Known::Plain => put_object(out, inner, fields, value.fields()),
         Known::Wrapper => put_part(out, inner, fields.by_number(1), value.get(1)),
-        _ => unreachable!(),
+        _ => Ok(put_known(out, known, value)?),
     }
 }

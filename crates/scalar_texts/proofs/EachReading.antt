@@ -19,7 +19,7 @@ use Rattle.base64.specs.GeneralPurpose.{IsBytes}
 use Rattle.known_types.specs.BytesTexts.{IsBytesText}
 use Rattle.json_meanings.specs.SpelledBytes.{spelled_bytes}
 use Rattle.scalar_texts.proofs.TextBytes.{bytes_or_not, bytes_text_bytes}
-use Rattle.scalar_texts.proofs.ReadingLemmas.{number_told}
+use Rattle.scalar_texts.proofs.Theorems.{number_told}
 use Rattle.scalar_texts.specs.ScalarTexts.{named_number, DenotesNumber, DenotesItem, IsEnumKind, IsRead}
 use Rattle.json_meanings.specs.JsonScalars.{truth_text}
 use Rattle.json_meanings.specs.JsonScalars.{IsNumberKind}

@@ -1,3 +1,5 @@
+-- The integers of number kinds, which other crates cite.
+pub mod Theorems
 -- What is found of a text is what the definitions say, and a text has one reading (`read_scalar`,
 -- `one_reading_of_a_text`, `items_and_faults_are_apart`).
 pub mod ReadingLemmas

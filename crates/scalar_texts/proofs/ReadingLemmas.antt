@@ -1,22 +1,20 @@
 -- What is found of a text is what the definitions say, and a text has one reading.
-use Rattle.std.proofs.Common.{◌≡◌, ◌≢◌, ◌⊎◌, inl, inr, ℕ, suc, ◌<◌, ◌^◌, Bool, true, false, List, Option, Some, None, refl, sym, ap, subst, ◌∙◌, arith}
-use Rattle.std.specs.Prelude.{ℤ, pos, negsuc, Result, Ok, Err}
+use Rattle.std.proofs.Common.{◌≡◌, ◌≢◌, ◌⊎◌, inl, inr, ℕ, Bool, true, false, List, Option, Some, None, refl, sym, ap, subst, ◌∙◌}
+use Rattle.std.specs.Prelude.{ℤ, Result, Ok, Err}
 use Rattle.std.specs.Str.{IsUtf8}
-use Rattle.std.proofs.lemmas.Int.{ints, to_z-of_z}
-use mir.Syntax.{w128}
-use mir.Val.{to_z, of_z}
 use Rattle.json_events.specs.JsonNumbers.{DenotesInteger}
-use Rattle.json_integers.specs.IntegerTexts.{IsTold, IsIntegerText}
+use Rattle.json_integers.specs.IntegerTexts.{IsIntegerText}
 use Rattle.json_integers.specs.declared.integer_text.IntegerText.TheVariants.{NotANumber, PastRange}
 use Rattle.message_types.specs.declared.fields.Scalar.{Scalar}
 use Rattle.message_types.specs.declared.fields.Scalar.TheVariants.{Int32, Int64, Uint32, Uint64, Sint32, Sint64, Fixed32, Fixed64, Sfixed32, Sfixed64, Bool as BoolOf, Text as TextOf, Bytes as BytesOf, Enumeration}
 use Rattle.message_types.specs.declared.messages.Types.{Types}
 use Rattle.schema.specs.Layers.{ItemLayer}
-use Rattle.schema.specs.Validity.{IsWithin, IsInt32, IsInt64, IsScalarItem}
+use Rattle.schema.specs.Validity.{IsScalarItem}
 use Rattle.schema.specs.declared.value.Item.TheOpen.{Number, Truth, Text, Bytes, Message}
 use Rattle.schema.specs.declared.value.Item.{Item, out-Item, roll-Item, roll-out-Item}
 use Rattle.known_types.specs.BytesTexts.{IsBytesText}
 use Rattle.json_meanings.specs.JsonScalars.{IsNumberKind}
+use Rattle.scalar_texts.proofs.Theorems.{number_told}
 use Rattle.scalar_texts.specs.ScalarMeanings.{IsNumberReading, IsNumberMeaning}
 use Rattle.scalar_texts.specs.ScalarTexts.{named_number, DenotesNumber, IsScalarText, IsEnumKind, IsOtherText, IsScalarTextFault, IsScalarReading, MayLackMemory}
 use Rattle.json_meanings.specs.JsonScalars.{truth_text}
@@ -143,40 +141,6 @@ text_utf8 (Enumeration id) t h = absurd h
 
 one_item : (i j : Item) → out-Item i ≡ out-Item j → i ≡ j
 one_item i j e = sym (roll-out-Item i) ∙ ap roll-Item e ∙ roll-out-Item j
-
-int32_told : (z : ℤ) → IsInt32 z → IsTold z
-int32_told z h = let a = h.0 in let b = h.1 in omega (arith, ints)
-
-int64_told : (z : ℤ) → IsInt64 z → IsTold z
-int64_told z h = let a = h.0 in let b = h.1 in omega (arith, ints)
-
-low_told : (z : ℤ) → IsWithin (pos 0) (pos (2 ^ 32)) z → IsTold z
-low_told z h = let a = h.0 in let b = h.1 in omega (arith, ints)
-
-high_told : (z : ℤ) → IsWithin (pos 0) (pos (2 ^ 64)) z → IsTold z
-high_told z h = let a = h.0 in let b = h.1 in omega (arith, ints)
-
--- no kind has an integer past 64 bits
-pub number_told : (s : Scalar) (z : ℤ) → IsScalarItem s (Number z) → IsTold z
-number_told Int32 z h = int32_told z h
-number_told Int64 z h = int64_told z h
-number_told Uint32 z h = low_told z h
-number_told Uint64 z h = high_told z h
-number_told Sint32 z h = int32_told z h
-number_told Sint64 z h = int64_told z h
-number_told Fixed32 z h = low_told z h
-number_told Fixed64 z h = high_told z h
-number_told Sfixed32 z h = int32_told z h
-number_told Sfixed64 z h = int64_told z h
-number_told BoolOf z h = absurd h
-number_told TextOf z h = absurd h
-number_told BytesOf z h = absurd h
-number_told (Enumeration id) z h = int32_told z h
-
--- an integer that is told has its value in 128 bits
-pub wide : (z : ℤ) → IsTold z → to_z w128 (of_z w128 z) ≡ z
-wide (pos n) h = let k : n < 2 ^ 64 = h in to_z-of_z w128 (pos n) (record { sfits = omega arith })
-wide (negsuc n) h = let k : suc n < 2 ^ 64 = h in to_z-of_z w128 (negsuc n) (record { sfits = omega arith })
 
 -- an integer past 64 bits is out of range
 pub past_range : (s : Scalar) (text : List ℕ) → IsIntegerText text PastRange → IsNumberReading s text (Err OutOfRange)

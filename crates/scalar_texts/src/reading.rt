@@ -19,6 +19,7 @@ fn bytes_item(alloc: Global, text: &[u8]) -> Result<Item, ScalarFault>
     match read_bytes(alloc, text) {
         Ok(bytes) => Ok(Item::Bytes(bytes)),
         Err(TextFault::BadText) => Err(ScalarFault::BadText),
+        Err(TextFault::OutOfRange) => unreachable!(),
         Err(TextFault::NoMemory) => Err(ScalarFault::NoMemory),
     }
 }

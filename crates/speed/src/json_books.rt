@@ -1,10 +1,9 @@
 //! JSON of the library's books, as texts, tokens and values.
-ghost use Rattle.json_meanings.specs.TextTypes.{AreByFields};
 
 use crate::json_types::book_types;
 use crate::texts::token_rounds;
 use field_index::IndexedTypes;
-use protojson_read::read_body;
+use json_bodies::read_body;
 use protojson_write::show;
 use schema::{TypeId, Value, valid};
 use std::alloc::{AllocError, Global};
@@ -53,10 +52,8 @@ fn rounds_of(text: &[u8], size: usize) -> usize {
 }
 
 /// The book that a text is; None where it is refused, or without memory.
-fn book_of(alloc: Global, types: &IndexedTypes<'_>, text: &[u8]) -> Option<Value>
-    requires { AreByFields types.now }
-{
-    match read_body(alloc, types, TypeId(0), None, text) {
+fn book_of(alloc: Global, types: &IndexedTypes<'_>, text: &[u8]) -> Option<Value> {
+    match read_body(alloc, types, TypeId(0), None, text, 0) {
         Ok(book) => Some(book),
         Err(_) => None,
     }
@@ -101,9 +98,7 @@ pub fn show_rounds(alloc: Global, bytes: usize, size: usize) -> u64 {
 }
 
 /// How many bytes a book has that is shown so often; 0 where that fails.
-fn shown_bytes(alloc: Global, types: &IndexedTypes<'_>, book: &Value, rounds: usize) -> u64
-    requires { AreByFields types.now }
-{
+fn shown_bytes(alloc: Global, types: &IndexedTypes<'_>, book: &Value, rounds: usize) -> u64 {
     if !valid(types.types(), TypeId(0), book) {
         return 0;
     }

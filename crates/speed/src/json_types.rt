@@ -1,6 +1,4 @@
 //! The types of the library's books, as their JSON is read.
-ghost use Rattle.std.specs.Prelude.{◌≡◌, IfOk};
-ghost use Rattle.json_meanings.specs.TextTypes.{AreByFields};
 
 use base::{List, NoMemory, Text};
 use schema::{
@@ -91,9 +89,7 @@ fn message(
     name: &str,
     known: Known,
     fields: List<Field>,
-) -> Result<MessageType, NoMemory>
-    ensures { IfOk result (λ message. message.known ≡ known) }
-{
+) -> Result<MessageType, NoMemory> {
     Ok(MessageType {
         name: Text::copy_of(alloc, name)?,
         known,
@@ -102,10 +98,7 @@ fn message(
 }
 
 /// The types of books and of prices.
-#[tactic(auto, using(crate::proofs::JsonTypes::two_by_fields))]
-pub(crate) fn book_types(alloc: Global) -> Result<Types, NoMemory>
-    ensures { IfOk result AreByFields }
-{
+pub(crate) fn book_types(alloc: Global) -> Result<Types, NoMemory> {
     let mut messages = List::new(alloc);
     let book = fields_of(alloc, &BOOK_FIELDS)?;
     messages.push(message(alloc, "Book", Known::Plain, book)?)?;

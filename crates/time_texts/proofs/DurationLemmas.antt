@@ -1,21 +1,18 @@
 -- A text is cut into the parts of a duration in one way, and the tests tell whether it is one.
-use Rattle.std.proofs.Common.{◌≡◌, ℕ, zero, suc, ◌+◌, ◌-◌, ◌*◌, ◌^◌, ◌<◌, ◌≤◌, min, Bool, true, false, cond, not, ◌&&◌, ◌||◌, eqb, List, [], ◌∷◌, ◌++◌, length, take, drop, refl, sym, ap, ap₂, subst, ◌∙◌, arith, eqb-true, eq-eqb, take-append-drop, Result, Ok, Err, ⊎_elim, inl, inr, ◌⊎◌}
-use Rattle.std.specs.Prelude.{codes, ℤ, pos, negsuc, unsigned_abs, decimal, ◌<ℤ◌, ◌≤ℤ◌}
-use Rattle.std.proofs.Math.Nat.{pow-suc}
-use Rattle.std.proofs.lemmas.Bool.{and_parts, and_from, or_cases}
+use Rattle.std.proofs.Common.{◌≡◌, ℕ, zero, suc, ◌<◌, ◌≤◌, min, Bool, true, false, cond, not, eqb, List, [], ◌∷◌, ◌++◌, length, take, drop, refl, sym, ap, ap₂, subst, ◌∙◌, arith, eqb-true, take-append-drop, Ok, Err, ⊎_elim, inl, inr, ◌⊎◌}
+use Rattle.std.specs.Prelude.{codes, unsigned_abs}
+use Rattle.std.proofs.lemmas.Bool.{and_parts, and_from}
 use Rattle.std.proofs.lemmas.Bool.Decides.{nat_tests}
 use Rattle.std.proofs.lemmas.Slice.Eq.{bytes_eq-Decides}
 use Rattle.std.specs.Char.{is_ascii_digit}
 use Rattle.std.specs.List.{prefix_len}
-use Rattle.std.specs.Str.{bytes_eq}
 use Rattle.std.specs.Str.Parse.{digits_value}
 use Rattle.jiff_core.specs.Sign.{signed}
 use Rattle.time_texts.specs.Digits.{are_all_digits, are_some_digits}
-use Rattle.time_texts.specs.Fractions.{is_fraction, fraction_len, nanos_of}
-use Rattle.time_texts.specs.DurationTexts.{DurationParts, duration_parts_text, is_minus, are_duration_parts, duration_moment, IsDurationText, MeansDuration, IsDurationSeconds, IsDurationReading}
+use Rattle.time_texts.specs.Fractions.{fraction_len, nanos_of}
+use Rattle.time_texts.specs.DurationTexts.{DurationParts, duration_parts_text, is_minus, are_duration_parts, duration_moment, IsDurationText, MeansDuration, IsDurationReading}
 use Rattle.time_texts.specs.DurationCut.{minus_len, cut_behind, cut_unsigned, cut_duration, are_cut_parts}
 use Rattle.time_texts.specs.declared.moment.Moment.{Moment}
-use Rattle.time_texts.specs.declared.fault.TimeFault.{TimeFault}
 use Rattle.time_texts.specs.declared.fault.TimeFault.TheVariants.{BadText, OutOfRange}
 use Rattle.time_texts.proofs.FractionLemmas.{NoDigit, NoPoint, len_of_digits, len_of_fraction, fraction_begins, at_seam}
 
@@ -136,23 +133,22 @@ good_duration s q v m e h capped within seconds nanos =
     let v_is : v ≡ digits_value 10 q.whole = capped_within (digits_value 10 q.whole) v capped within in
     let negative : Bool = not (eqb (length q.minus) 0) in
     let here : m ≡ duration_moment q =
-    ap₂ (λ x y. record { seconds = x; nanos = y }) (seconds ∙ ap (signed negative) v_is) nanos in (
-      record {
-        parts = cut_duration s;
-        written = cut_written s (ap are_cut_parts (sym e) ∙ h);
-        moment_is = here ∙ ap duration_moment e;
-      },
-      subst (λ n. n ≤ 315_576_000_000) (sym (ap unsigned_abs seconds ∙ signed_size negative v)) within,
-    )
+    ap₂ (λ x y. record { seconds = x; nanos = y }) (seconds ∙ ap (signed negative) v_is) nanos in
+    record {
+      parts = cut_duration s;
+      written = cut_written s (ap are_cut_parts (sym e) ∙ h);
+      in_range = subst (λ n. n ≤ 315_576_000_000) (sym (ap unsigned_abs seconds ∙ signed_size negative v)) within;
+      moment_is = here ∙ ap duration_moment e;
+    }
 
 -- a text does not say both
-pub far_or_within : (s : List ℕ) (a : Moment) → MeansDuration s a → IsDurationSeconds a.seconds
+pub far_or_within : (s : List ℕ) (a : Moment) → MeansDuration s a
     → (p : DurationParts) → IsDurationText s p → 315_576_000_000 < digits_value 10 p.whole → ⊥
-far_or_within s a m within p w past =
+far_or_within s a m p w past =
     let same : m.parts ≡ p = sym (same_parts s m.parts m.written) ∙ same_parts s p w in
     let size : unsigned_abs a.seconds ≡ digits_value 10 m.parts.whole =
     ap (λ (x : Moment). unsigned_abs x.seconds) m.moment_is
     ∙ signed_size (not (eqb (length m.parts.minus) 0)) (digits_value 10 m.parts.whole) in
     let digits : digits_value 10 m.parts.whole ≡ digits_value 10 p.whole =
     ap (λ (q : DurationParts). digits_value 10 q.whole) same in
-    absurd (omega (arith, size, digits, within, past))
+    absurd (omega (arith, size, digits, m.in_range, past))

@@ -1,77 +1,44 @@
 -- The worked examples, computed.
-use Rattle.std.proofs.Common.{◌≡◌, ℕ, suc, ◌+◌, ◌-◌, ◌*◌, ◌/◌, ◌<◌, ◌≤◌, Bool, true, false, List, length, not, eqb, refl, sym, ap, ap₂, subst, ◌∙◌, lit≤, arith, Option, Some, None, Result, Ok, Err}
-use Rattle.std.specs.Prelude.{codes, ℤ, pos, negsuc, neg_ℤ, ◌+ℤ◌, ◌-ℤ◌, ◌*ℤ◌, ◌≤ℤ◌, nat_le, cond}
-use Rattle.std.proofs.lemmas.Bool.Decides.{nat_tests}
+use Rattle.std.proofs.Common.{◌≡◌, ℕ, suc, ◌+◌, ◌≤◌, refl, sym, ap, ap₂, subst, ◌∙◌, lit≤, arith, Ok, Err}
+use Rattle.std.specs.Prelude.{codes, ℤ, pos, negsuc, ◌+ℤ◌, ◌≤ℤ◌}
 use Rattle.std.proofs.lemmas.Int.{ints}
 use Rattle.jiff_core.proofs.CalendarLemmas.{days_from_civil-day_count}
 use Rattle.jiff_core.proofs.MarchLemmas.{day_count-early, day_count-late}
 use Rattle.jiff_core.proofs.SignedLemmas.{signed_arith}
 use Rattle.jiff_core.specs.March.{march_days, march_months}
-use Rattle.jiff_core.specs.Calendar.{IsCivilDate, days_from_civil, days_in_month}
+use Rattle.jiff_core.specs.Calendar.{days_from_civil, days_in_month}
 use Rattle.std.specs.Fmt.{digits}
-use Rattle.std.specs.Str.Parse.{digits_value}
-use Rattle.time_texts.specs.DurationTexts.{DurationParts, IsDurationReading, duration_moment}
-use Rattle.time_texts.specs.DurationCut.{cut_duration, are_cut_parts}
-use Rattle.time_texts.specs.DurationReading.{ranged_duration, duration_reading}
 use Rattle.time_texts.specs.DurationExamples.{DurationExamplesHold, ShownDurationsHold}
-use Rattle.time_texts.specs.declared.moment.Moment.{Moment}
-use Rattle.time_texts.specs.declared.fault.TimeFault.{TimeFault}
 use Rattle.time_texts.specs.declared.fault.TimeFault.TheVariants.{BadText, OutOfRange}
-use Rattle.time_texts.specs.TimestampTexts.{IsTimestampReading, IsCivilReading, IsRealCivil, IsClock, IsTimestampRange, IsTimestampSeconds, civil_of, civil_moment, instant, seconds_at}
-use Rattle.time_texts.specs.TimestampCut.{civil_in, cut_timestamp}
+use Rattle.time_texts.specs.TimestampTexts.{IsCivilReading, IsRealCivil, IsTimestampRange, IsTimestampSeconds, civil_of, instant, seconds_at}
+use Rattle.time_texts.specs.TimestampCut.{cut_timestamp}
 use Rattle.time_texts.specs.TimestampExamples.{TimestampExamplesHold, FarTimestampsHold, BadTimestampsHold}
 use Rattle.time_texts.specs.declared.civil.Civil.{Civil}
 use Rattle.time_texts.proofs.TimestampReads.{no_timestamp, timestamp_read}
-use Rattle.time_texts.proofs.DurationLemmas.{bad_duration, cut_written, signed_size}
-
--- what one computes is what is read
-pub reading_is : (s : List ℕ) → IsDurationReading s (duration_reading s)
-reading_is s = parts (are_cut_parts (cut_duration s)) refl
-  where
-    ranged : (t : Bool) → nat_le (digits_value 10 (cut_duration s).whole) 315_576_000_000 ≡ t
-        → are_cut_parts (cut_duration s) ≡ true
-        → IsDurationReading s (cond t (Ok (duration_moment (cut_duration s))) (Err OutOfRange))
-    ranged true e h = (
-      record { parts = cut_duration s; written = cut_written s h; moment_is = refl },
-      subst (λ n. n ≤ 315_576_000_000)
-          (sym (signed_size (not (eqb (length (cut_duration s).minus) 0)) (digits_value 10 (cut_duration s).whole)))
-          (within (digits_value 10 (cut_duration s).whole) e),
-    )
-      where
-        within : (n : ℕ) → nat_le n 315_576_000_000 ≡ true → n ≤ 315_576_000_000
-        within n h = grind (arith, nat_tests)
-    ranged false e h = (cut_duration s, cut_written s h, past (digits_value 10 (cut_duration s).whole) e)
-      where
-        past : (n : ℕ) → nat_le n 315_576_000_000 ≡ false → 315_576_000_000 < n
-        past n h = grind (arith, nat_tests)
-
-    parts : (t : Bool) → are_cut_parts (cut_duration s) ≡ t
-        → IsDurationReading s (cond t (ranged_duration (cut_duration s)) (Err BadText))
-    parts true e = ranged (nat_le (digits_value 10 (cut_duration s).whole) 315_576_000_000) refl e
-    parts false e = bad_duration s (cut_duration s) refl e
+use Rattle.time_texts.proofs.ReadingLemmas.{duration_is}
 
 -- the examples of durations hold
 pub durations_hold : DurationExamplesHold
 durations_hold = record {
-  one_and_a_half = reading_is (codes "1.5s");
-  minus_a_half = reading_is (codes "-0.5s");
-  minus_zero = reading_is (codes "-0s");
-  zeros_in_front = reading_is (codes "0007.000000001s");
-  most = reading_is (codes "315576000000.000000000s");
-  billionth_past = reading_is (codes "315576000000.000000001s");
-  least = reading_is (codes "-315576000000.999999999s");
-  too_many = reading_is (codes "315576000001s");
-  far_too_many = reading_is (codes "-99999999999999999999999999.5s");
-  nothing = reading_is (codes "");
-  no_unit = reading_is (codes "1");
-  no_seconds = reading_is (codes ".5s");
-  no_fraction = reading_is (codes "1.s");
-  ten_digits = reading_is (codes "1.0000000000s");
-  plus = reading_is (codes "+1s");
-  two_minuses = reading_is (codes "--1s");
-  space = reading_is (codes "1 s");
-  byte_behind = reading_is (codes "1s ");
-  other_unit = reading_is (codes "1m");
+  one_and_a_half = duration_is (codes "1.5s");
+  minus_a_half = duration_is (codes "-0.5s");
+  minus_zero = duration_is (codes "-0s");
+  zeros_in_front = duration_is (codes "0007.000000001s");
+  most = duration_is (codes "315576000000.000000000s");
+  billionth_past = duration_is (codes "315576000000.000000001s");
+  least = duration_is (codes "-315576000000.999999999s");
+  too_many = duration_is (codes "315576000001s");
+  far_too_many = duration_is (codes "-99999999999999999999999999.5s");
+  nothing = duration_is (codes "");
+  no_unit = duration_is (codes "1");
+  no_seconds = duration_is (codes ".5s");
+  no_fraction = duration_is (codes "1.s");
+  ten_digits = duration_is (codes "1.0000000000s");
+  plus = duration_is (codes "+1s");
+  two_minuses = duration_is (codes "--1s");
+  space = duration_is (codes "1 s");
+  byte_behind = duration_is (codes "1s ");
+  other_unit = duration_is (codes "1m");
 }
 
 -- and so do those of texts that are written

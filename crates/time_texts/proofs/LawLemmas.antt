@@ -1,11 +1,11 @@
 -- A text has one meaning at most, one answer, and an instant one text.
-use Rattle.std.proofs.Common.{◌≡◌, ℕ, ◌+◌, ◌*◌, ◌<◌, ◌≤◌, List, refl, sym, ap, ap₂, subst, ◌∙◌, arith, Result, Ok, Err}
+use Rattle.std.proofs.Common.{◌≡◌, ℕ, ◌<◌, List, refl, sym, ap, subst, ◌∙◌, arith, Result, Ok, Err}
 use Rattle.std.specs.Prelude.{ℤ, pos, unsigned_abs, ◌+ℤ◌, ◌*ℤ◌}
 use Rattle.jiff_core.proofs.DateLemmas.{epoch_day_injective}
 use Rattle.jiff_core.proofs.SignedLemmas.{signed_arith}
 use Rattle.jiff_core.specs.Calendar.{IsCivilDate, days_from_civil}
 use Rattle.jiff_core.specs.declared.civil.date.Date.{Date}
-use Rattle.time_texts.specs.DurationTexts.{DurationParts, IsDurationText, MeansDuration, IsDurationReading, duration_moment, IsDurationSeconds}
+use Rattle.time_texts.specs.DurationTexts.{MeansDuration, IsDurationReading, duration_moment}
 use Rattle.time_texts.specs.TimestampTexts.{TimestampParts, IsTimestampText, MeansTimestamp, IsTimestampReading, IsTimestampShown, IsTimestampRange, IsUtcOf, civil_of, civil_moment, utc_text}
 use Rattle.time_texts.specs.declared.moment.Moment.{Moment}
 use Rattle.time_texts.specs.declared.timestamp.Utc.{Utc}
@@ -13,7 +13,6 @@ use Rattle.time_texts.specs.declared.fault.TimeFault.{TimeFault}
 use Rattle.time_texts.specs.declared.fault.TimeFault.TheVariants.{BadText, OutOfRange}
 use Rattle.time_texts.proofs.DurationLemmas as duration
 use Rattle.time_texts.proofs.TimestampLemmas as timestamp
-use borrow.Author.Differences.{up, down}
 
 -- a text means one duration
 pub one_duration : (s : List ℕ) (a b : Moment) → MeansDuration s a → MeansDuration s b → a ≡ b
@@ -33,13 +32,13 @@ one_timestamp s a b x y =
 -- a text has one answer as a duration
 pub one_duration_reading : (s : List ℕ) (q r : Result Moment TimeFault) → IsDurationReading s q → IsDurationReading s r
     → q ≡ r
-one_duration_reading s (Ok a) (Ok b) h k = ap Ok (one_duration s a b h.0 k.0)
-one_duration_reading s (Ok a) (Err BadText) h k = absurd (k h.0.parts h.0.written)
-one_duration_reading s (Ok a) (Err OutOfRange) h k = absurd (duration.far_or_within s a h.0 h.1 k.0 k.1 k.2)
-one_duration_reading s (Err BadText) (Ok b) h k = absurd (h k.0.parts k.0.written)
+one_duration_reading s (Ok a) (Ok b) h k = ap Ok (one_duration s a b h k)
+one_duration_reading s (Ok a) (Err BadText) h k = absurd (k h.parts h.written)
+one_duration_reading s (Ok a) (Err OutOfRange) h k = absurd (duration.far_or_within s a h k.0 k.1 k.2)
+one_duration_reading s (Err BadText) (Ok b) h k = absurd (h k.parts k.written)
 one_duration_reading s (Err BadText) (Err BadText) h k = refl
 one_duration_reading s (Err BadText) (Err OutOfRange) h k = absurd (h k.0 k.1)
-one_duration_reading s (Err OutOfRange) (Ok b) h k = absurd (duration.far_or_within s b k.0 k.1 h.0 h.1 h.2)
+one_duration_reading s (Err OutOfRange) (Ok b) h k = absurd (duration.far_or_within s b k h.0 h.1 h.2)
 one_duration_reading s (Err OutOfRange) (Err BadText) h k = absurd (k h.0 h.1)
 one_duration_reading s (Err OutOfRange) (Err OutOfRange) h k = refl
 

@@ -1,5 +1,5 @@
 -- What is written is read back as the same.
-use Rattle.std.proofs.Common.{◌≡◌, ℕ, zero, suc, ◌+◌, ◌-◌, ◌*◌, ◌/◌, ◌%◌, ◌^◌, ◌<◌, ◌≤◌, Bool, true, false, cond, not, ◌&&◌, ◌||◌, eqb, List, [], ◌∷◌, ◌++◌, length, refl, sym, ap, ap₂, subst, ◌∙◌, arith, eq-eqb, None, append_assoc, Result, Ok, Err, OnOk}
+use Rattle.std.proofs.Common.{◌≡◌, ℕ, zero, suc, ◌+◌, ◌*◌, ◌/◌, ◌%◌, ◌^◌, ◌<◌, ◌≤◌, Bool, true, false, cond, not, ◌||◌, eqb, List, [], ◌∷◌, ◌++◌, length, refl, sym, ap, ap₂, subst, ◌∙◌, arith, None, append_assoc, Result, Ok, Err, OnOk}
 use Rattle.std.specs.Prelude.{codes, ℤ, pos, negsuc, neg_ℤ, unsigned_abs, ◌<ℤ◌, ◌≤ℤ◌, ◌+ℤ◌, ◌-ℤ◌, ◌*ℤ◌, decimal}
 use Rattle.std.proofs.lemmas.Bool.{and_from}
 use Rattle.std.proofs.lemmas.Bool.Decides.{nat_tests}
@@ -8,7 +8,7 @@ use Rattle.std.proofs.lemmas.Int.{by_lt_z, ints}
 use Rattle.std.proofs.lemmas.Str.Parse.{digit_from_value}
 use Rattle.std.specs.Char.{digit_value, is_ascii_digit}
 use Rattle.std.specs.Int.{is_negative}
-use Rattle.std.specs.Str.Parse.{AllDigits, digits_value}
+use Rattle.std.specs.Str.Parse.{AllDigits}
 use Rattle.jiff_core.proofs.CalendarLemmas.{day_count-lt_year, days_from_civil-day_count, days_in_month_bounds}
 use Rattle.jiff_core.proofs.DateLemmas.{civil}
 use Rattle.jiff_core.specs.Date.{epoch_day}
@@ -17,16 +17,15 @@ use Rattle.jiff_core.proofs.MarchLemmas.{day_count-early}
 use Rattle.jiff_core.proofs.SignedLemmas.{signed_arith}
 use Rattle.jiff_core.specs.Calendar.{IsCivilDate, day_count, days_from_civil}
 use Rattle.jiff_core.specs.Sign.{signed}
-use Rattle.time_texts.specs.Digits.{are_all_digits, are_some_digits, are_digits, padded}
-use Rattle.time_texts.specs.Fractions.{nanos_of, fraction_text}
-use Rattle.time_texts.specs.DurationTexts.{DurationParts, signed_text, duration_text, duration_moment, MeansDuration, IsPrintableDuration, IsDurationSeconds}
-use Rattle.time_texts.specs.TimestampTexts.{TimestampParts, IsTimestampText, MeansTimestamp, IsTimestampShown, IsPrintableTimestamp, IsTimestampRange, IsTimestampSeconds, IsRealCivil, IsClock, IsUtcOf, IsDayOf, AppendsTimestamp, civil_of, civil_moment, instant, utc_text, zone_of}
+use Rattle.time_texts.specs.Digits.{are_all_digits, are_some_digits, padded}
+use Rattle.time_texts.specs.Fractions.{fraction_text}
+use Rattle.time_texts.specs.DurationTexts.{DurationParts, signed_text, duration_text, MeansDuration, IsPrintableDuration}
+use Rattle.time_texts.specs.TimestampTexts.{TimestampParts, MeansTimestamp, IsTimestampShown, IsPrintableTimestamp, IsTimestampRange, IsTimestampSeconds, IsRealCivil, IsUtcOf, IsDayOf, AppendsTimestamp, civil_of, civil_moment, instant, utc_text}
 use Rattle.time_texts.specs.declared.civil.Civil.{Civil}
 use Rattle.time_texts.specs.declared.civil.Zone.{Zone}
 use Rattle.time_texts.specs.declared.moment.Moment.{Moment}
 use Rattle.time_texts.specs.declared.timestamp.Utc.{Utc}
 use Rattle.time_texts.proofs.FractionLemmas.{padded_are, padded_value, written_is_fraction, written_nanos}
-use borrow.Author.Differences.{up, down}
 
 -- digits by std's word for numerals are digits by the test
 digit_tested : (c : ℕ) → digit_value c < 10 → is_ascii_digit c ≡ true
@@ -92,6 +91,7 @@ duration_written false m sign fits =
         allowed = and_from _ _ (some_tested _ d.0.0 d.0.1)
             (and_from _ _ (written_is_fraction (unsigned_abs m.nanos)) refl);
       };
+      in_range = fits.seconds;
       moment_is = ap₂ (λ x y. record { seconds = x; nanos = y })
           (sym sign.seconds ∙ ap pos (sym d.1))
           (sym sign.nanos ∙ ap pos (sym (written_nanos (unsigned_abs m.nanos) fits.nanos)));
@@ -105,6 +105,7 @@ duration_written true m sign fits =
         allowed = and_from _ _ (some_tested _ d.0.0 d.0.1)
             (and_from _ _ (written_is_fraction (unsigned_abs m.nanos)) refl);
       };
+      in_range = fits.seconds;
       moment_is = ap₂ (λ x y. record { seconds = x; nanos = y })
           (sym sign.seconds ∙ ap (λ n. neg_ℤ (pos n)) (sym d.1))
           (sym sign.nanos ∙ ap (λ n. neg_ℤ (pos n)) (sym (written_nanos (unsigned_abs m.nanos) fits.nanos)));
@@ -117,7 +118,7 @@ shown_duration m fits =
     (sign_is m.seconds m.nanos fits.positive fits.negative) fits
 
 -- the first day of the year 1
-first_day : day_count (pos 1) 1 1 ≡ 3_652_791
+pub first_day : day_count (pos 1) 1 1 ≡ 3_652_791
 first_day = day_count-early (pos 1) 10000 1 1 refl (omega arith) (omega arith) (omega arith)
 
 -- a day from then on is of such a year
@@ -194,7 +195,8 @@ instant_is u nanos s e =
     none : (z : ℤ) → z ≡ z -ℤ pos 0
     none z = omega (arith, ints)
 
-size_is : (z : ℤ) → pos 0 ≤ℤ z → z ≡ pos (unsigned_abs z)
+-- a number that is not negative is its size
+pub size_is : (z : ℤ) → pos 0 ≤ℤ z → z ≡ pos (unsigned_abs z)
 size_is (pos n) h = refl
 size_is (negsuc n) h = absurd (omega (arith, ints, h))
 

@@ -1,10 +1,10 @@
 -- The tests tell whether a text is a timestamp's, and what is read of it.
-use Rattle.std.proofs.Common.{◌≡◌, ℕ, ◌+◌, ◌≤◌, Bool, true, false, cond, not, ◌&&◌, List, length, drop, refl, sym, ap, ap₂, subst, ◌∙◌, Option, Some, None, Result, Ok, Err}
+use Rattle.std.proofs.Common.{◌≡◌, ℕ, Bool, true, false, cond, ◌&&◌, List, length, drop, refl, sym, ap, ap₂, subst, ◌∙◌, Some, None, Result, Ok, Err}
 use Rattle.std.specs.Prelude.{nat_le}
 use Rattle.std.proofs.lemmas.Bool.{and_parts, and_from}
 use Rattle.time_texts.specs.Digits.{are_all_digits}
 use Rattle.time_texts.specs.Fractions.{is_fraction}
-use Rattle.time_texts.specs.TimestampTexts.{TimestampParts, civil_of, civil_moment, IsRealCivil, IsTimestampText, MeansTimestamp, IsTimestampRange, IsCivilReading, IsTimestampReading}
+use Rattle.time_texts.specs.TimestampTexts.{TimestampParts, civil_of, civil_moment, IsRealCivil, IsTimestampText, IsTimestampRange, IsCivilReading, IsTimestampReading}
 use Rattle.time_texts.specs.TimestampCut.{part_at, has_marks, has_date_digits, has_clock_digits, has_front, is_zone, cut_front, fraction_behind, zone_behind, cut_timestamp, has_form, civil_in}
 use Rattle.time_texts.specs.declared.civil.Civil.{Civil}
 use Rattle.time_texts.specs.declared.moment.Moment.{Moment}

@@ -1,5 +1,5 @@
 -- Worked texts of durations (the ProtoJSON guide, Duration), and what they say.
-use Rattle.std.specs.Prelude.{◌≡◌, ◌-◌, pos, negsuc, codes, Ok, Err}
+use Rattle.std.specs.Prelude.{◌≡◌, pos, negsuc, codes, Ok, Err}
 use Rattle.time_texts.specs.DurationTexts.{IsDurationReading, duration_text}
 use Rattle.time_texts.specs.declared.fault.TimeFault.TheVariants.{BadText, OutOfRange}
 

@@ -1,13 +1,11 @@
 -- The text of a google.protobuf.Duration (the ProtoJSON guide, Duration; duration.proto, JSON Mapping).
 use Rattle.std.specs.Prelude.{◌≡◌, ◌==◌, ◌&&◌, ◌||◌, ◌≤◌, ◌<◌, ℕ, Bool, true, not, List, [], ◌∷◌, ◌++◌, length, if◌then◌else◌, codes, ℤ, pos, unsigned_abs, ◌<ℤ◌, ◌≤ℤ◌, decimal, Result, Ok, Err}
 use Rattle.std.specs.Int.{is_negative}
-use Rattle.std.specs.List.{prefix_len}
-use Rattle.std.specs.Char.{is_ascii_digit}
 use Rattle.std.specs.Str.{bytes_eq}
 use Rattle.std.specs.Str.Parse.{digits_value}
 use Rattle.jiff_core.specs.Sign.{signed}
 use Rattle.time_texts.specs.Digits.{are_some_digits}
-use Rattle.time_texts.specs.Fractions.{is_fraction, fraction_len, nanos_of, fraction_text}
+use Rattle.time_texts.specs.Fractions.{is_fraction, nanos_of, fraction_text}
 use Rattle.time_texts.specs.declared.moment.Moment.{Moment}
 use Rattle.time_texts.specs.declared.fault.TimeFault.{TimeFault}
 use Rattle.time_texts.specs.declared.fault.TimeFault.TheVariants.{BadText, OutOfRange}
@@ -45,20 +43,21 @@ pub record IsDurationText (text : List ℕ) (parts : DurationParts) : Type 0 whe
   pub text_is : text ≡ duration_parts_text parts
   pub allowed : are_duration_parts parts ≡ true
 
--- a text means a duration
-pub record MeansDuration (text : List ℕ) (moment : Moment) : Type 0 where
-  pub parts : DurationParts
-  pub written : IsDurationText text parts
-  pub moment_is : moment ≡ duration_moment parts
-
 -- the seconds of a duration are in range: within 315,576,000,000 either way
 abbrev pub IsDurationSeconds : ℤ → Type 0
 IsDurationSeconds s = unsigned_abs s ≤ 315_576_000_000
 
--- what is read of a text: the duration that it means; BadText where it means none; OutOfRange where it means one whose
--- seconds are out of range
+-- a text means a duration whose seconds are in range
+pub record MeansDuration (text : List ℕ) (moment : Moment) : Type 0 where
+  pub parts : DurationParts
+  pub written : IsDurationText text parts
+  pub in_range : IsDurationSeconds moment.seconds
+  pub moment_is : moment ≡ duration_moment parts
+
+-- what is read of a text: the duration that it means; BadText where it is no duration's; OutOfRange where it is one's
+-- whose seconds are out of range
 abbrev pub IsDurationReading : List ℕ → Result Moment TimeFault → Type 0
-IsDurationReading text (Ok moment) = MeansDuration text moment × IsDurationSeconds moment.seconds
+IsDurationReading text (Ok moment) = MeansDuration text moment
 IsDurationReading text (Err BadText) = (parts : DurationParts) → IsDurationText text parts → ⊥
 IsDurationReading text (Err OutOfRange) =
     (parts : DurationParts) × IsDurationText text parts × (315_576_000_000 < digits_value 10 parts.whole)

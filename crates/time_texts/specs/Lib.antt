@@ -6,6 +6,8 @@ pub mod DurationPartsSeen
 pub mod TimestampTexts
 pub mod TimestampCut
 pub mod DurationReading
+pub mod TimestampReading
+pub mod PrintableTimes
 pub mod DurationExamples
 pub mod TimestampExamples
 pub mod UtcTimes

@@ -1,6 +1,6 @@
 -- The date of a day's number and the text of an instant, as one computes them: the last year and the last month that
 -- begin at or before the day.
-use Rattle.std.specs.Prelude.{ℕ, zero, suc, ◌+◌, ◌-◌, ◌/◌, ◌%◌, List, if◌then◌else◌, nat_le, ℤ, pos, unsigned_abs, ◌+ℤ◌, ◌-ℤ◌}
+use Rattle.std.specs.Prelude.{ℕ, zero, suc, ◌+◌, ◌-◌, ◌/◌, ◌%◌, List, if◌then◌else◌, nat_le, pos, unsigned_abs, ◌+ℤ◌}
 use Rattle.jiff_core.specs.Calendar.{days_of_years, days_of_months}
 use Rattle.time_texts.specs.TimestampTexts.{utc_text}
 use Rattle.time_texts.specs.declared.moment.Moment.{Moment}

@@ -117,8 +117,8 @@ pub fn read_duration(text: &[u8]) -> Result<Moment, TimeFault>
     Ok(moment_of(!parts.minus.is_empty(), seconds, nanos_of(parts.fraction)))
 }
 
-/// Whether a duration has a text.
-fn is_printable(moment: Moment) -> bool
+/// Whether a duration has a text. Takes no memory.
+pub fn is_printable_duration(moment: Moment) -> bool
     ensures { IsTrue result ↔ IsPrintableDuration moment }
 {
     moment.seconds.unsigned_abs() <= MAX_DURATION_SECONDS
@@ -190,7 +190,7 @@ pub fn show_duration(moment: Moment, out: &mut Vec<u8>) -> Result<(), ShowFault>
     ensures unprintable { result ≡ Err ShowFault.Unprintable ↔ ¬ (IsPrintableDuration moment) }
     ensures err { OnErr result (out.new.items ≡ out.old.items) }
 {
-    if !is_printable(moment) {
+    if !is_printable_duration(moment) {
         return Err(ShowFault::Unprintable);
     }
     let len = out.len();

@@ -17,7 +17,7 @@ mod tests;
 mod timestamp;
 
 pub use civil::{Civil, Zone};
-pub use duration::{MAX_DURATION_SECONDS, read_duration, show_duration};
+pub use duration::{MAX_DURATION_SECONDS, is_printable_duration, read_duration, show_duration};
 pub use fault::{ShowFault, TimeFault};
 pub use moment::Moment;
-pub use timestamp::{Utc, read_timestamp, show_timestamp};
+pub use timestamp::{Utc, is_printable_timestamp, read_timestamp, show_timestamp};

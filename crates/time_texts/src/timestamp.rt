@@ -213,8 +213,8 @@ fn write_timestamp(moment: Moment, out: &mut Vec<u8>) -> Result<(), NoMemory>
     write_utc(out, utc, nanos)
 }
 
-/// Whether an instant has a text.
-fn is_printable(moment: Moment) -> bool
+/// Whether an instant has a text. Takes no memory.
+pub fn is_printable_timestamp(moment: Moment) -> bool
     ensures { IsTrue result ↔ IsPrintableTimestamp moment }
 {
     is_in_range(moment.seconds) && 0 <= moment.nanos && moment.nanos < 1_000_000_000
@@ -227,7 +227,7 @@ pub fn show_timestamp(moment: Moment, out: &mut Vec<u8>) -> Result<(), ShowFault
     ensures unprintable { result ≡ Err ShowFault.Unprintable ↔ ¬ (IsPrintableTimestamp moment) }
     ensures err { OnErr result (out.new.items ≡ out.old.items) }
 {
-    if !is_printable(moment) {
+    if !is_printable_timestamp(moment) {
         return Err(ShowFault::Unprintable);
     }
     let len = out.len();

@@ -1,18 +1,16 @@
 use Rattle.std.proofs.lemmas.Result.{err_from_is_err_and, on_ok_weaker}
-use Rattle.protojson_write.proofs.ShownLemmas.{no_field, one_field, shown_within, stop_refused, stops_refused}
+use Rattle.known_types.specs.KnownTexts.{known_text}
+use Rattle.protojson_write.proofs.ShownLemmas.{one_field, shown_within, stop_refused, stops_refused}
 use Rattle.protojson_write.proofs.shown.put_field.Goals as goal
-
-pub returns-in_default-clause-refusal : goal.returns-in_default-clause-refusal
-returns-in_default-clause-refusal c = rw (no_field c.args.within.types.now c.args.id c.args.number c.args.value.now c.fields.result.now c.fields.ensures c.in_default.ensures) tt
 
 pub returns-in_err-put_part-clause-refusal : goal.returns-in_err-put_part-clause-refusal
 returns-in_err-put_part-clause-refusal c =
-    let p = err_from_is_err_and c.from_residual.result c.from_residual.ensures.1 in rw (p.1, p.2) (stop_refused _ _ _ c.args.within.start c.args.within.limit c.in_err-put_part.field-0.0 (one_field c.args.within.types.now c.requires.types c.args.within.level c.args.id c.args.number c.args.value.now c.fields.result.now c.in-Some.field.now _ c.requires.level c.fields.ensures c.in-Some.ensures c.get.ensures) c.requires.start c.in_err-put_part.ensures.stop)
+    let p = err_from_is_err_and c.from_residual.result c.from_residual.ensures.1 in rw (p.1, p.2) (stop_refused _ _ _ c.args.within.start c.args.within.limit c.in_err-put_part.field-0.0 (one_field known_text c.args.within.types.now c.args.within.level c.args.id c.args.number c.args.value.now c.fields.result.now _ _ c.requires.level c.fields.ensures c.by_number-field.ensures c.get.ensures c.requires.printable) c.requires.start c.in_err-put_part.ensures.stop)
 
 pub returns-clause-ok : goal.returns-clause-ok
 returns-clause-ok c =
-    on_ok_weaker c.check.result (λ h. shown_within _ _ _ _ c.args.within.start c.args.within.limit (one_field c.args.within.types.now c.requires.types c.args.within.level c.args.id c.args.number c.args.value.now c.fields.result.now c.in-Some.field.now _ c.requires.level c.fields.ensures c.in-Some.ensures c.get.ensures) c.requires.start c.in_ok-put_part.ensures.ok h) c.check.ensures.ok
+    on_ok_weaker c.check.result (λ h. shown_within _ _ _ _ c.args.within.start c.args.within.limit (one_field known_text c.args.within.types.now c.args.within.level c.args.id c.args.number c.args.value.now c.fields.result.now _ _ c.requires.level c.fields.ensures c.by_number-field.ensures c.get.ensures c.requires.printable) c.requires.start c.in_ok-put_part.ensures.ok h) c.check.ensures.ok
 
 pub returns-clause-refusal : goal.returns-clause-refusal
 returns-clause-refusal c =
-    stops_refused c.check.result _ _ _ _ c.args.within.start c.args.within.limit (one_field c.args.within.types.now c.requires.types c.args.within.level c.args.id c.args.number c.args.value.now c.fields.result.now c.in-Some.field.now _ c.requires.level c.fields.ensures c.in-Some.ensures c.get.ensures) c.requires.start c.in_ok-put_part.ensures.ok c.check.ensures.stop
+    stops_refused c.check.result _ _ _ _ c.args.within.start c.args.within.limit (one_field known_text c.args.within.types.now c.args.within.level c.args.id c.args.number c.args.value.now c.fields.result.now _ _ c.requires.level c.fields.ensures c.by_number-field.ensures c.get.ensures c.requires.printable) c.requires.start c.in_ok-put_part.ensures.ok c.check.ensures.stop

@@ -1,27 +1,28 @@
 use Rattle.std.proofs.Common.{◌≡◌, ◌+◌, ◌*◌, ◌++◌, ℕ, drop}
 use Rattle.base.specs.Extends.{Extends}
+use Rattle.known_types.specs.KnownTexts.{known_text}
 use Rattle.message_types.specs.Types.{field_in}
 use Rattle.schema.specs.declared.value.Item.{out-Item}
 use Rattle.schema.specs.declared.value.Slot.{Slot}
-use Rattle.protojson_write.specs.JsonOutput.{entry_text, followers, item_text, member_text, no_texts, text_within}
+use Rattle.protojson_write.specs.JsonOutput.{entry_text, followers, item_text, member_text, text_within}
 use Rattle.protojson_write.proofs.writer.+put.Given as goal
 
 abbrev pub invariant-put_other_items-loop-item : goal.invariant-put_other_items-loop-item
 invariant-put_other_items-loop-item l = record {
   grown : Extends l.initial.out.items l.out.items;
-  told : l.out.items ++ followers (λ i. item_text (text_within no_texts l.within.level l.within.types.now) l.within.types.now l.kind (out-Item i)) (drop l.item-index l.items) ≡ l.initial.out.items ++ followers (λ i. item_text (text_within no_texts l.within.level l.within.types.now) l.within.types.now l.kind (out-Item i)) l.items;
+  told : l.out.items ++ followers (λ i. item_text (text_within known_text l.within.level l.within.types.now) l.within.types.now l.kind (out-Item i)) (drop l.item-index l.items) ≡ l.initial.out.items ++ followers (λ i. item_text (text_within known_text l.within.level l.within.types.now) l.within.types.now l.kind (out-Item i)) l.items;
 }
 
 abbrev pub invariant-put_other_entries-loop-key : goal.invariant-put_other_entries-loop-key
 invariant-put_other_entries-loop-key l = record {
   grown : Extends l.initial.out.items l.out.items;
-  told : l.out.items ++ followers (entry_text (text_within no_texts l.within.level l.within.types.now) l.within.types.now l.kind) (drop l.key-index l.entries) ≡ l.initial.out.items ++ followers (entry_text (text_within no_texts l.within.level l.within.types.now) l.within.types.now l.kind) l.entries;
+  told : l.out.items ++ followers (entry_text (text_within known_text l.within.level l.within.types.now) l.within.types.now l.kind) (drop l.key-index l.entries) ≡ l.initial.out.items ++ followers (entry_text (text_within known_text l.within.level l.within.types.now) l.within.types.now l.kind) l.entries;
 }
 
 abbrev pub invariant-put_other_members-loop-number : goal.invariant-put_other_members-loop-number
 invariant-put_other_members-loop-number l = record {
   grown : Extends l.initial.out.items l.out.items;
-  told : l.out.items ++ followers (λ (e : ℕ × Slot). member_text (text_within no_texts l.within.level l.within.types.now) l.within.types.now (field_in l.fields e.0) e.1) (drop l.number-index l.slots) ≡ l.initial.out.items ++ followers (λ (e : ℕ × Slot). member_text (text_within no_texts l.within.level l.within.types.now) l.within.types.now (field_in l.fields e.0) e.1) l.slots;
+  told : l.out.items ++ followers (λ (e : ℕ × Slot). member_text (text_within known_text l.within.level l.within.types.now) l.within.types.now (field_in l.fields e.0) e.1) (drop l.number-index l.slots) ≡ l.initial.out.items ++ followers (λ (e : ℕ × Slot). member_text (text_within known_text l.within.level l.within.types.now) l.within.types.now (field_in l.fields e.0) e.1) l.slots;
 }
 
 abbrev pub decreases-put_message : goal.decreases-put_message

@@ -2,7 +2,7 @@ use Rattle.std.proofs.Common.{arith}
 use Rattle.std.specs.Prelude.{◌^◌, pos, negsuc}
 use Rattle.std.proofs.lemmas.Int.{ints}
 use Rattle.message_types.specs.declared.fields.Scalar.TheVariants.{Uint64}
-use Rattle.scalar_texts.proofs.ReadingLemmas.{number_told}
+use Rattle.scalar_texts.proofs.Theorems.{number_told}
 use Rattle.scalar_texts.proofs.examples.number_examples.Goals as goal
 
 pub returns : goal.returns

@@ -2,7 +2,7 @@ use Rattle.std.proofs.Common.{◌≡◌, true, sym, subst}
 use Rattle.std.specs.Prelude.{ℤ}
 use Rattle.schema.specs.Validity.{IsScalarItem}
 use Rattle.schema.specs.declared.value.Item.TheOpen.{Number}
-use Rattle.scalar_texts.proofs.ReadingLemmas.{wide}
+use Rattle.scalar_texts.proofs.Theorems.{wide}
 use Rattle.scalar_texts.proofs.numbers.number_of.Goals as goal
 
 pub returns-else-has_number : goal.returns-else-has_number

@@ -1,4 +1,4 @@
-use Rattle.std.proofs.Common.{arith, ◌≤◌, length}
+use Rattle.std.proofs.Common.{arith}
 use Rattle.time_texts.proofs.DigitLemmas.{digit_low, digit_high, value_next, value_all}
 use Rattle.time_texts.proofs.digits.capped_value.Goals as goal
 

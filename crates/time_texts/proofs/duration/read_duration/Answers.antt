@@ -1,4 +1,4 @@
-use Rattle.std.proofs.Common.{◌≡◌, true, false, sym, ◌∙◌, arith}
+use Rattle.std.proofs.Common.{◌≡◌, true, false, arith}
 use Rattle.time_texts.specs.DurationCut.{are_cut_parts}
 use Rattle.time_texts.specs.DurationPartsSeen.{duration_parts_seen}
 use Rattle.time_texts.proofs.DurationLemmas.{bad_duration, far_duration, good_duration}

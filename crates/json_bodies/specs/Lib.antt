@@ -1,0 +1,5 @@
+pub use Rattle.json_meanings.specs.TextMeanings
+pub use Rattle.json_meanings.specs.KnownReadings
+pub mod WholeMessages
+pub mod BodySteps
+pub mod BodyExamples

@@ -1,0 +1,4 @@
+pub mod MaskTexts
+pub mod PrintablePaths
+pub mod MaskItems
+pub mod MaskExamples

@@ -1,5 +1,0 @@
-use Rattle.protojson_read.proofs.StayLemmas.{faults_stay}
-use Rattle.protojson_read.proofs.laws.faults_before_the_end_stay.Goals as goal
-
-pub returns : goal.returns
-returns c d id n bytes more = faults_stay c.fronts_have_one_list_of_tokens.ensures.fronts bytes more d id n
