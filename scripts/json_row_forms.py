@@ -4,7 +4,7 @@ are put into, with their wanted answers.
 
 # The input types of the methods of scripts/values.proto.
 (BOOK, SCALARS, OPTIONALS, LISTS, MAPS, CHOICE, WRAPPERS, TREE, NAMES, INT64_VALUE, BOOL_VALUE, INT32_VALUE, UINT32_VALUE, UINT64_VALUE,
- STRING_VALUE, BYTES_VALUE, WRAPPER_PARTS, DEEP) = range(18)
+ STRING_VALUE, BYTES_VALUE, WRAPPER_PARTS, DEEP, KNOWN, MAYBE_WRAPPERS, TIMESTAMP, DURATION, FIELD_MASK) = range(23)
 
 
 # Records of the encoding guide.
@@ -127,6 +127,12 @@ def shows(kind, text, *records, part=None):
     """The text is written of the message of these records."""
     verb = f"show {kind}" if part is None else f"part {kind} {part}"
     row(f"{verb} {hexed(records)}", text)
+
+
+def unshown(kind, *records, part=None):
+    """The message of these records has no text, or not the field of it."""
+    verb = f"show {kind}" if part is None else f"part {kind} {part}"
+    row(f"{verb} {hexed(records)}", "Unprintable")
 
 
 def both(kind, text, *records, part=None):

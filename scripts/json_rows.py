@@ -19,11 +19,13 @@ CRATE = ROOT / "crates/json_values"
 sys.path.insert(0, str(ROOT / "scripts"))
 from json_row_faults import books, causes, nesting, parts, texts  # noqa: E402
 from json_row_forms import ANSWERS, LINES  # noqa: E402
+from json_row_known import field_masks, known_depth, known_places, moments, optional_wrappers, unprintable_values  # noqa: E402
 from json_row_messages import keys, lists, maps, oneofs, whole_messages, wrappers  # noqa: E402
 from json_row_scalars import byte_strings, enums, integers, truths_and_strings  # noqa: E402
 
 HEAD = "# From here on the rows are made by scripts/json_rows.py, which has the wanted answers too."
-PUTS = [integers, truths_and_strings, byte_strings, enums, lists, maps, wrappers, oneofs, keys, whole_messages, texts, nesting, causes, parts, books]
+PUTS = [integers, truths_and_strings, byte_strings, enums, lists, maps, wrappers, oneofs, keys, whole_messages, texts, nesting, causes, parts, books,
+        moments, field_masks, known_places, unprintable_values, known_depth, optional_wrappers]
 
 
 def made():

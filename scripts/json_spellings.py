@@ -7,6 +7,7 @@ ProtoJSON guide or RFC 8259 says so, and where the guide leaves a choice that do
 """
 import base64
 
+from json_known import KNOWN_DIFFERENCES, WRONG, known_kind, spelled_known
 from json_row_forms import DEEP, MAPS, NAMES, SCALARS, TREE, chunks, deep_maps
 
 WRAPPERS = "google/protobuf/wrappers.proto"
@@ -225,6 +226,9 @@ class Speller:
         kind = message.DESCRIPTOR
         if kind.file.name == WRAPPERS:
             self.scalar(kind.fields_by_name["value"], message.value)
+        elif known_kind(kind) is not None:
+            if not self.spoil(WRONG[known_kind(kind)]):
+                self.put(spelled_string(self.r, spelled_known(self.r, message)))
         elif not self.spoil([("1", "WrongShape"), ("true", "WrongShape"), ('"x"', "WrongShape"), ("[1]", "WrongShape")]):
             self.members(message)
 
@@ -337,4 +341,5 @@ DIFFERENCES = {
         (DEEP, '{"down":' * 99 + '{"counts":{"a":1}}' + "}" * 99, "TooDeep 803", chunks(99, 1, bytes.fromhex("12050a01611001")).hex()),
         (DEEP, '{"deeps":{"1":' * 50 + "{}" + "}}" * 50, "TooDeep 696", deep_maps(50).hex()),
     ],
+    **KNOWN_DIFFERENCES,
 }

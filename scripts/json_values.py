@@ -20,6 +20,8 @@ Where ProtoJSON leaves the form open, what is written differs from that of `json
 - one field alone: an absent list is `[]`, an absent map is `{}`, an absent field without presence its default, and one with
   presence null (`json_format` has no text of a field alone, and leaves such a field out).
 
+Of a value in which a timestamp, a duration or a field mask has no text (scripts/json_known.py) only that is asked.
+
 Floats are no part of it: a set that reaches one is not served. The set is what protoc writes of scripts/values.proto,
 without the files that only its annotations want: the first line of crates/json_values/stdin has it.
 
@@ -47,15 +49,18 @@ except ImportError:
 ROOT = pathlib.Path(__file__).resolve().parent.parent
 
 sys.path.insert(0, str(ROOT / "scripts"))
+from json_known import UNWRITTEN, has_text, known_field_text, known_kind  # noqa: E402
+from json_random import is_map, values  # noqa: E402
 from json_spellings import DIFFERENCES, respelled, spoiled  # noqa: E402
 from program import built  # noqa: E402
 from protoc_set import google_api  # noqa: E402
 
-KEPT_FILES = ["google/protobuf/wrappers.proto", "values.proto"]
-WRAPPERS = KEPT_FILES[0]
+WRAPPERS = "google/protobuf/wrappers.proto"
+KNOWN_FILES = ["google/protobuf/duration.proto", "google/protobuf/field_mask.proto", "google/protobuf/timestamp.proto", WRAPPERS]
+KEPT_FILES = [*KNOWN_FILES, "values.proto"]
 
-# How deep random values are, and trees: 100 levels are the most that have a value.
-MAX_DEPTH, MAX_LEVELS = 5, 100
+# What is told of a value that has no text.
+NO_TEXT = "Unprintable"
 
 # The word by which `json_format` tells defaults of fields without presence, of old and in newer versions.
 WITH_DEFAULTS = "including_default_value_fields"
@@ -64,14 +69,14 @@ if WITH_DEFAULTS not in inspect.signature(json_format.MessageToDict).parameters:
 
 
 def values_set(include):
-    """The set of scripts/values.proto: its own file, and that of the wrappers without its options."""
+    """The set of scripts/values.proto: its own file, and those of the well-known types without their options."""
     with tempfile.TemporaryDirectory() as name:
         made = ["protoc", f"-I{ROOT}/scripts", f"-I{include}", "-I/usr/include", "--include_imports", f"--descriptor_set_out={name}/set.bin", "values.proto"]
         subprocess.run(made, check=True)
         whole = descriptor_pb2.FileDescriptorSet.FromString((pathlib.Path(name) / "set.bin").read_bytes())
     kept = descriptor_pb2.FileDescriptorSet(file=[one for one in whole.file if one.name in KEPT_FILES])
     for one in kept.file:
-        if one.name == WRAPPERS:
+        if one.name in KNOWN_FILES:
             one.ClearField("options")
     return kept.SerializeToString(deterministic=True)
 
@@ -80,8 +85,8 @@ def types_of(data):
     """The classes of the input types of the set's methods, in their order."""
     pool = descriptor_pool.DescriptorPool()
     for file in descriptor_pb2.FileDescriptorSet.FromString(data).file:
-        if file.name not in KEPT_FILES[:1]:
-            file.dependency[:] = KEPT_FILES[:1]
+        if file.name not in KNOWN_FILES:
+            file.dependency[:] = KNOWN_FILES
             for service in file.service:
                 for method in service.method:
                     method.ClearField("options")
@@ -91,118 +96,6 @@ def types_of(data):
         return [message_factory.GetMessageClass(declared) for declared in inputs]
     factory = message_factory.MessageFactory(pool)
     return [factory.GetPrototype(declared) for declared in inputs]
-
-
-# Random values.
-
-CHARACTERS = "ab zZ09\"\\/'<>&{}[]:,\x00\x01\x08\t\n\x0b\x0c\r\x1b\x1f\x7f\x80\x9f\xe9\u07ff\u0800\u2028\u2029\u20ac\ud7ff\ue000\ufeff\ufffe\uffff\U00010000\U0001d11e\U0010ffff"
-WORDS = ["", "null", "true", "1", "-1", "NaN", "\u00e9", "\u00e9" * 40, "\uffff", "\U00010000", "RED", "a b", '{"a":1}', "\\u0041"]
-
-
-def random_text(r):
-    if r.random() < 0.2:
-        return r.choice(WORDS)
-    return "".join(r.choice(CHARACTERS) for _ in range(r.choice([1, 1, 2, 3, 5, 8, 30])))
-
-
-def random_bytes(r):
-    return bytes(r.choice([0, 251, 255, 62, 63, r.randrange(256)]) for _ in range(r.choice([0, 1, 2, 3, 4, 5, 6, 7, 30])))
-
-
-def random_integer(r, low, high):
-    """An integer of a range: near an end of it, near one of 32 bits, small, or any."""
-    near = r.choice([low, high, 0, 0, 1, -1, 2**31, 2**32, 10 ** r.randrange(19), r.randrange(low, high + 1)])
-    return min(high, max(low, near + r.choice([0, 0, 0, 1, -1, 9])))
-
-
-def random_enum(r, declared):
-    """A number of an enum, named or not."""
-    if r.random() < 0.7:
-        return r.choice(list(declared.values)).number
-    return random_integer(r, -2**31, 2**31 - 1)
-
-
-def random_scalar(r, field):
-    kind = field.type
-    if kind == field.TYPE_BOOL:
-        return r.random() < 0.5
-    if kind == field.TYPE_STRING:
-        return random_text(r)
-    if kind == field.TYPE_BYTES:
-        return random_bytes(r)
-    if kind == field.TYPE_ENUM:
-        return random_enum(r, field.enum_type)
-    if kind in (field.TYPE_INT64, field.TYPE_SINT64, field.TYPE_SFIXED64):
-        return random_integer(r, -2**63, 2**63 - 1)
-    if kind in (field.TYPE_UINT64, field.TYPE_FIXED64):
-        return random_integer(r, 0, 2**64 - 1)
-    if kind in (field.TYPE_UINT32, field.TYPE_FIXED32):
-        return random_integer(r, 0, 2**32 - 1)
-    assert kind in (field.TYPE_INT32, field.TYPE_SINT32, field.TYPE_SFIXED32), field.full_name
-    return random_integer(r, -2**31, 2**31 - 1)
-
-
-def is_map(field):
-    return field.message_type is not None and field.message_type.GetOptions().map_entry
-
-
-def fill_map(r, entries, field, depth):
-    key, value = field.message_type.fields_by_name["key"], field.message_type.fields_by_name["value"]
-    for _ in range(r.choice([1, 1, 2, 3, 5])):
-        one = random_scalar(r, key)
-        if value.message_type is not None:
-            fill(r, entries[one], depth + 1)
-        else:
-            entries[one] = random_scalar(r, value)
-
-
-def fill_field(r, message, field, depth):
-    held = getattr(message, field.name)
-    if is_map(field):
-        fill_map(r, held, field, depth)
-    elif field.label == field.LABEL_REPEATED:
-        for _ in range(r.choice([1, 1, 2, 3])):
-            if field.message_type is not None:
-                fill(r, held.add(), depth + 1)
-            else:
-                held.append(random_scalar(r, field))
-    elif field.message_type is not None:
-        held.SetInParent()
-        fill(r, held, depth + 1)
-    else:
-        setattr(message, field.name, random_scalar(r, field))
-
-
-def fill(r, message, depth=0):
-    """Sets some fields of a message, fewer the deeper it is; a later member of a oneof clears an earlier one."""
-    fields = list(message.DESCRIPTOR.fields)
-    share = r.choice([0.1, 0.3, 0.3, 0.6, 1]) if depth == 0 else 0.5 if len(fields) == 1 else r.choice([0, 0.1, 0.3, 0.5])
-    for field in r.sample(fields, len(fields)):
-        if r.random() < share and not (depth >= MAX_DEPTH and field.message_type is not None):
-            fill_field(r, message, field, depth)
-
-
-def chain(made, depth):
-    """A tree of so many levels, itself counted."""
-    whole = made()
-    at = whole
-    for level in range(depth - 1):
-        at = getattr(at, ["left", "right"][level % 2])
-        at.SetInParent()
-    at.leaf_name = "leaf"
-    return whole
-
-
-def values(r, types, count):
-    """So many values with the number of their type: of each type in turn, and some trees of all levels."""
-    trees = [made.DESCRIPTOR.name for made in types].index("Tree")
-    for at in range(count):
-        if at % 500 == 0:
-            yield trees, chain(types[trees], MAX_LEVELS - at // 500 % 40)
-            continue
-        made = types[at % len(types)]()
-        fill(r, made)
-        yield at % len(types), made
 
 
 # The texts that are wanted.
@@ -222,7 +115,7 @@ def sorted_keys(told, field):
 
 def written_item(told, message_type):
     """One value of a field as `json_format` tells it."""
-    if message_type is None or message_type.file.name == WRAPPERS:
+    if message_type is None or message_type.file.name in KNOWN_FILES:
         return dumped(told)
     return written_message(told, message_type)
 
@@ -255,6 +148,11 @@ def wanted_part(message, field):
     """The text of one field: the default that `json_format` tells where absence is the default, else null."""
     if message.DESCRIPTOR.file.name == WRAPPERS:
         return wanted_text(message)
+    if known_kind(message.DESCRIPTOR) is not None:
+        return known_field_text(message, field)
+    message = alone(message, field)
+    if not has_text(message):
+        return NO_TEXT
     told = json_format.MessageToDict(message)
     if field.json_name not in told:
         if has_presence(field):
@@ -300,6 +198,14 @@ def python_reads(text, made, wanted):
     return told
 
 
+def python_writes(value, wanted):
+    """Asks that Python writes a value so."""
+    def told(_):
+        written = json_format.MessageToJson(value)
+        return None if written == wanted else f"Python writes it as {written}, wanted {wanted}"
+    return told
+
+
 def alone(value, field):
     """The message with one field of a value."""
     out = type(value)()
@@ -323,6 +229,10 @@ def asked_of(r, types, count):
         made, data = type(value), value.SerializeToString().hex()
         field = r.choice(list(value.DESCRIPTOR.fields))
         part = wanted_part(value, field)
+        if not has_text(value):
+            yield Asked("show", number, data, NO_TEXT)
+            yield Asked("part", number, data, part, part=(value, field))
+            continue
         yield Asked("show", number, data, wanted_text(value), python_reads(None, made, canonical(value)))
         yield Asked("part", number, data, part, part=(value, field))
         yield Asked("read", number, python_text(r, value).encode().hex(), canonical(value))
@@ -335,11 +245,14 @@ def asked_of(r, types, count):
 
 
 def differences_asked(types):
-    """The texts that are read otherwise than by Python, which must be read so by both."""
+    """The texts that are read otherwise than by Python, which must be read so by both, and values of which Python alone has a text."""
     for examples in DIFFERENCES.values():
         for number, text, wanted, python in examples:
             assert wanted != python
             yield Asked("read", number, text.encode().hex(), wanted, python_reads(text, types[number], python))
+    for examples in UNWRITTEN.values():
+        for number, data, text in examples:
+            yield Asked("show", number, data, NO_TEXT, python_writes(types[number].FromString(bytes.fromhex(data)), text))
 
 
 def untold_fields(asked):
@@ -378,7 +291,7 @@ def main():
     for one in wrong[:20]:
         print(one[:1_000], file=sys.stderr)
     untold = untold_fields(asked)
-    print(f"{count} values, {len(asked)} lines, {len(DIFFERENCES)} known differences, {len(wrong)} lines otherwise than wanted, {len(untold)} fields not told", *untold)
+    print(f"{count} values, {len(asked)} lines, {len(DIFFERENCES) + len(UNWRITTEN)} known differences, {len(wrong)} lines otherwise than wanted, {len(untold)} fields not told", *untold)
     return 1 if wrong or untold or set_differs(data) else 0
 
 

@@ -11,8 +11,7 @@
 //!
 //! A value without a text is answered by the name of the fault, bytes that are no message by what is wrong with them,
 //! and a text that means no value by the name of its first fault and the place of that.
-//! Lines that are empty or begin with `#` are left out. A set that is not served, or that has a timestamp, a duration
-//! or a field mask, is answered by `no set` alone.
+//! Lines that are empty or begin with `#` are left out. A set that is not served is answered by `no set` alone.
 #![tactic(auto)]
 
 mod reading;

@@ -1,4 +1,4 @@
-//! Values with well-known types that are shown, in each place where one may stand.
+//! Values with well-known types that have no text or are held to a limit, in each place where one may stand.
 
 use crate::{ShowFault, show};
 use base::{List, NoMemory, Text};
@@ -55,18 +55,6 @@ fn moment_fields(alloc: Global) -> Result<List<Field>, NoMemory> {
     Ok(fields)
 }
 
-/// The one field of a type.
-fn one_field(
-    alloc: Global,
-    name: &str,
-    scalar: Scalar,
-    shape: Shape,
-) -> Result<List<Field>, NoMemory> {
-    let mut fields = List::new(alloc);
-    fields.push(field(alloc, name, 1, Kind::One(scalar), shape)?)?;
-    Ok(fields)
-}
-
 /// Fields of a type in each shape: single, in a list, as the value of an entry, and in a oneof.
 fn fields_of(alloc: Global, kind: Kind) -> Result<List<Field>, NoMemory> {
     let mut fields = List::new(alloc);
@@ -99,15 +87,6 @@ fn numbers(alloc: Global, first: i128, second: i128) -> Result<Value, NoMemory> 
     if second != 0 {
         value.set(2, Slot::One(Item::Number(second)))?;
     }
-    Ok(value)
-}
-
-/// A field mask of one path.
-fn mask(alloc: Global, path: &str) -> Result<Value, NoMemory> {
-    let mut paths = List::new(alloc);
-    paths.push(Item::Text(Text::copy_of(alloc, path)?))?;
-    let mut value = Value::new(alloc);
-    value.set(1, Slot::Many(paths))?;
     Ok(value)
 }
 
@@ -156,95 +135,6 @@ fn shown(
         Err(ShowFault::NoMemory) => return Err(NoMemory),
     }
     Ok(out)
-}
-
-#[test]
-fn times_are_shown_alone(rt: HostRuntime) -> Result<(), Fail> {
-    let alloc = rt.alloc();
-    let types = types_of(alloc, Known::Timestamp, moment_fields(alloc)?)?;
-    let time = numbers(alloc, 1, 500_000_000)?;
-    let whole = shown(alloc, &types, TypeId(1), &time, 100)?;
-    assert_eq!(rt;
-        whole.as_slice(),
-        b">\"1970-01-01T00:00:01.500Z\"".as_slice()
-    );
-    let one = with_slot(alloc, 1, Slot::One(Item::Message(time)))?;
-    let text = shown(alloc, &types, TypeId(0), &one, 100)?;
-    assert_eq!(rt;
-        text.as_slice(),
-        b">{\"one\":\"1970-01-01T00:00:01.500Z\"}".as_slice()
-    );
-    let member = with_slot(alloc, 4, Slot::One(Item::Message(numbers(alloc, 0, 0)?)))?;
-    let text = shown(alloc, &types, TypeId(0), &member, 100)?;
-    assert_eq!(rt;
-        text.as_slice(),
-        b">{\"member\":\"1970-01-01T00:00:00Z\"}".as_slice()
-    );
-    Ok(())
-}
-
-#[test]
-fn times_are_shown_in_lists_and_maps(rt: HostRuntime) -> Result<(), Fail> {
-    let alloc = rt.alloc();
-    let types = types_of(alloc, Known::Timestamp, moment_fields(alloc)?)?;
-    let list = listed(alloc, numbers(alloc, 0, 0)?, numbers(alloc, -1, 0)?)?;
-    let text = shown(alloc, &types, TypeId(0), &with_slot(alloc, 2, list)?, 100)?;
-    let wanted = b">{\"many\":[\"1970-01-01T00:00:00Z\",\"1969-12-31T23:59:59Z\"]}";
-    assert_eq!(rt; text.as_slice(), wanted.as_slice());
-    let map = mapped(alloc, numbers(alloc, 86_400, 0)?, numbers(alloc, 0, 1)?)?;
-    let text = shown(alloc, &types, TypeId(0), &with_slot(alloc, 3, map)?, 100)?;
-    let wanted =
-        b">{\"keyed\":{\"false\":\"1970-01-02T00:00:00Z\",\"true\":\"1970-01-01T00:00:00.000000001Z\"}}";
-    assert_eq!(rt; text.as_slice(), wanted.as_slice());
-    Ok(())
-}
-
-#[test]
-fn durations_and_masks_are_shown(rt: HostRuntime) -> Result<(), Fail> {
-    let alloc = rt.alloc();
-    let types = types_of(alloc, Known::Duration, moment_fields(alloc)?)?;
-    let list = listed(
-        alloc,
-        numbers(alloc, -1, -500_000_000)?,
-        numbers(alloc, 0, 0)?,
-    )?;
-    let text = shown(alloc, &types, TypeId(0), &with_slot(alloc, 2, list)?, 100)?;
-    assert_eq!(rt;
-        text.as_slice(),
-        b">{\"many\":[\"-1.500s\",\"0s\"]}".as_slice()
-    );
-    let paths = one_field(alloc, "paths", Scalar::Text, Shape::Many)?;
-    let types = types_of(alloc, Known::FieldMask, paths)?;
-    let map = mapped(alloc, mask(alloc, "user.display_name")?, Value::new(alloc))?;
-    let text = shown(alloc, &types, TypeId(0), &with_slot(alloc, 3, map)?, 100)?;
-    let wanted = b">{\"keyed\":{\"false\":\"user.displayName\",\"true\":\"\"}}";
-    assert_eq!(rt; text.as_slice(), wanted.as_slice());
-    Ok(())
-}
-
-#[test]
-fn wrappers_show_their_defaults(rt: HostRuntime) -> Result<(), Fail> {
-    let alloc = rt.alloc();
-    let fields = one_field(alloc, "value", Scalar::Int64, Shape::Single)?;
-    let types = types_of(alloc, Known::Wrapper, fields)?;
-    let whole = shown(alloc, &types, TypeId(1), &numbers(alloc, 7, 0)?, 100)?;
-    assert_eq!(rt; whole.as_slice(), b">\"7\"".as_slice());
-    let one = with_slot(alloc, 1, Slot::One(Item::Message(Value::new(alloc))))?;
-    let text = shown(alloc, &types, TypeId(0), &one, 100)?;
-    assert_eq!(rt; text.as_slice(), b">{\"one\":\"0\"}".as_slice());
-    let list = listed(alloc, Value::new(alloc), numbers(alloc, 7, 0)?)?;
-    let text = shown(alloc, &types, TypeId(0), &with_slot(alloc, 2, list)?, 100)?;
-    assert_eq!(rt; text.as_slice(), b">{\"many\":[\"0\",\"7\"]}".as_slice());
-    let map = mapped(alloc, numbers(alloc, 7, 0)?, Value::new(alloc))?;
-    let text = shown(alloc, &types, TypeId(0), &with_slot(alloc, 3, map)?, 100)?;
-    assert_eq!(rt;
-        text.as_slice(),
-        b">{\"keyed\":{\"false\":\"7\",\"true\":\"0\"}}".as_slice()
-    );
-    let member = with_slot(alloc, 4, Slot::One(Item::Message(Value::new(alloc))))?;
-    let text = shown(alloc, &types, TypeId(0), &member, 100)?;
-    assert_eq!(rt; text.as_slice(), b">{\"member\":\"0\"}".as_slice());
-    Ok(())
 }
 
 #[test]
