@@ -1,0 +1,13 @@
+pub use Rattle.json_meanings.specs.ExampleTypes
+pub use Rattle.json_meanings.specs.SpotTables
+pub use Rattle.known_types.specs.KnownTextExamples
+pub use Rattle.known_types.specs.KnownTexts
+pub use Rattle.message_types.specs.Types
+pub use Rattle.scalar_texts.specs.ScalarExamples
+pub use Rattle.scalar_texts.specs.ScalarTexts
+pub use Rattle.schema.specs.Layers
+pub use Rattle.schema.specs.Soundness
+pub use Rattle.schema.specs.Validity
+pub mod LeafTexts
+pub mod LeafReadings
+pub mod LeafExamples
