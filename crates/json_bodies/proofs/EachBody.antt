@@ -35,6 +35,16 @@ fresh_tells r bytes fresh stands =
     let by = subst (λ f. StandsByFault f r.reading [] []) fresh stands.by in
     is_text _ bytes by.awaits
 
+-- the tokens of a front have ended in the bytes
+pub ended_in_bytes : (bytes : List ℕ) (k : ℕ) (ts : List Span) → k ≤ length bytes → AreTokensOf (take k bytes) ts
+    → HaveEndedIn bytes ts
+ended_in_bytes bytes k ts within are = record {
+  count = k;
+  within = within;
+  begins = are.begins;
+  ended = subst (λ (m : ℕ). AllByRecursion (HasEnded m) ts) (length-take-le k bytes within) are.ended;
+}
+
 module _ (laws : (c : Schema) (id : TypeId) (n : Option ℕ) → ReadingLawsHold c id n) (c : Schema) (id : TypeId)
     (n : Option ℕ) (place : ℕ) where
   -- the place of a fault
@@ -99,13 +109,7 @@ module _ (laws : (c : Schema) (id : TypeId) (n : Option ℕ) → ReadingLawsHold
             → ((f : Fault) × IsFirstFault c id n (marks_of ts) f) ⊎ HasNoFault c id n ts → HasOutcome c id n place bytes
         by_fault k f ts a (inl h) =
             let at = placed ts h.0 h.1 in
-            let ended : HaveEndedIn bytes ts = record {
-              count = k;
-              within = f.within;
-              begins = a.begins;
-              ended = subst (λ (m : ℕ). AllByRecursion (HasEnded m) ts) (length-take-le k bytes f.within) a.ended;
-            } in
-            inr (Field at.0 h.0.1, (ts, inl ended, at.1))
+            inr (Field at.0 h.0.1, (ts, inl (ended_in_bytes bytes k ts f.within a), at.1))
         by_fault k f ts a (inr none) =
             inr (Syntax (saturated (place + k)), (ts, k, refl, record { no_text = other; front = f; tokens = a }, none))
 

@@ -20,6 +20,8 @@ use Rattle.json_meanings.specs.JsonScalars.{Schema}
 use Rattle.json_meanings.specs.ReadingLaws.{ReadingLawsHold}
 use Rattle.json_meanings.specs.declared.fault.FieldKind.TheVariants.{BadNumber, NullInside, WrongShape}
 use Rattle.message_types.specs.declared.messages.TypeId.{TypeId}
+use Rattle.json_bodies.proofs.FrontLemmas.{front_is_whole}
+use Rattle.json_bodies.specs.FrontFaults.{IsFrontFault, ShowsNoFault}
 use Rattle.json_bodies.specs.WholeMessages.{HasNoFault, IsBodyFault, IsNoText}
 use Rattle.json_bodies.specs.declared.fault.BodyFault.TheVariants.{Field, Syntax}
 
@@ -118,12 +120,12 @@ module _ (laws : ExampleLaws) where
       let x = text_of (take count bytes ++ more) (ts ++ others) e in
       record { count = count; within = within; begins = (more, others, x.0, x.1); ended = all }
 
-  -- ` null` is no book
-  pub null_for_a_book : (place at : ℕ) → at ≡ saturated (place + 1)
-      → IsBodyFault books book None place (codes " null") (Field at WrongShape)
-  null_for_a_book place at e = (
+  -- ` null` is no book, whatever follows
+  pub null_shown_for_a_book : (place at : ℕ) → at ≡ saturated (place + 1)
+      → IsFrontFault books book None place (codes " null") (Field at WrongShape)
+  null_shown_for_a_book place at e = (
     with_token (name names.Null) 1 5 [],
-    inr (text_of (codes " null") (with_token (name names.Null) 1 5 []) refl),
+    ended (codes " null") [] (with_token (name names.Null) 1 5 []) [] 5 (omega arith) refl (λ h. omega (arith, h), tt),
     record {
       before = [];
       token = record { mark = name names.Null; from = 1; to = 5 };
@@ -133,6 +135,11 @@ module _ (laws : ExampleLaws) where
       at_is = e;
     },
   )
+
+  pub null_for_a_book : (place at : ℕ) → at ≡ saturated (place + 1)
+      → IsBodyFault books book None place (codes " null") (Field at WrongShape)
+  null_for_a_book place at e =
+      front_is_whole books book None place (codes " null") (Field at WrongShape) (null_shown_for_a_book place at e)
 
   -- ` 1.5` is no number of pages
   pub half_at_the_end : (place at : ℕ) → at ≡ saturated (place + 1)
@@ -167,6 +174,16 @@ module _ (laws : ExampleLaws) where
     },
   )
 
+  -- no bytes have no token
+  no_token : AreTokensOf [] []
+  no_token =
+      are_tokens [] (codes "null") [] null_token (literal names.Null)
+      (ended [] (codes "null") [] null_token 0 (omega arith) refl tt) null_text (omega arith, tt)
+
+  -- and no token no fault
+  nothing_without_fault : HasNoFault books book None []
+  nothing_without_fault f h = absurd (omega (arith, h.0))
+
   -- no bytes are no text
   pub empty : (place at : ℕ) → at ≡ saturated (place + 0) → IsBodyFault books book None place [] (Syntax at)
   empty place at e = (
@@ -180,11 +197,9 @@ module _ (laws : ExampleLaws) where
         begins = (codes "null", literal names.Null, (_, null_text));
         longest = λ less. absurd (omega (arith, less));
       };
-      tokens = are_tokens [] (codes "null") [] null_token (literal names.Null)
-          (ended [] (codes "null") [] null_token 0 (omega arith) refl tt)
-          null_text (omega arith, tt);
+      tokens = no_token;
     },
-    λ f h. absurd (omega (arith, h.0)),
+    nothing_without_fault,
   )
 
   -- the tokens before the number of pages
@@ -197,38 +212,70 @@ module _ (laws : ExampleLaws) where
       (laws.readings books book None).begins_none (marks_of up_to_pages) f h
       (one_pair (codes "pageCount") (literal names.Null), _, _, refl, refl)
 
-  -- `{"pageCount":1.5` is no text, and the number has not ended
+  -- the tokens behind them, where the number ends the object
+  abbrev behind_pages : List Span
+  behind_pages = with_token (digits (codes "1.5")) 13 16 (with_token (closes Object) 16 17 [])
+
+  -- a text that goes on from the number
+  pages_whole : (j : Json) × IsTextWith j (codes "{\"pageCount\":1.5}") (up_to_pages ++ behind_pages)
+  pages_whole = text_of (codes "{\"pageCount\":1.5}") (up_to_pages ++ behind_pages) refl
+
+  -- the number of `{"pageCount":1.5` has not ended
+  pages_tokens : AreTokensOf (codes "{\"pageCount\":1.5") up_to_pages
+  pages_tokens =
+      let bytes = codes "{\"pageCount\":1.5" in
+      are_tokens bytes (codes "}") up_to_pages behind_pages pages_whole.0
+      (ended bytes (codes "}") up_to_pages behind_pages 16 (omega arith) refl
+      (λ h. omega (arith, h), (λ h. omega (arith, h), tt))) pages_whole.1 (omega arith, (omega arith, tt))
+
+  -- and so it is no text
   pub cut_behind_a_number : (place at : ℕ) → at ≡ saturated (place + 16)
       → IsBodyFault books book None place (codes "{\"pageCount\":1.5") (Syntax at)
-  cut_behind_a_number place at e =
-      let bytes = codes "{\"pageCount\":1.5" in
-      let behind = with_token (digits (codes "1.5")) 13 16 (with_token (closes Object) 16 17 []) in
-      let whole = text_of (bytes ++ codes "}") (up_to_pages ++ behind) refl in (
+  cut_behind_a_number place at e = (
+    up_to_pages,
+    16,
+    e,
+    record {
+      no_text = no_text (codes "{\"pageCount\":1.5") refl;
+      front = record {
+        within = omega arith;
+        begins = (codes "}", pages_whole.0, (_, pages_whole.1));
+        longest = λ less. absurd (omega (arith, less));
+      };
+      tokens = pages_tokens;
+    },
+    pages_without_fault,
+  )
+
+  -- nor does it end before a letter, with which no text goes on
+  pub letter_behind_a_number : (place at : ℕ) → at ≡ saturated (place + 16)
+      → IsFrontFault books book None place (codes "{\"pageCount\":1.5x") (Syntax at)
+  letter_behind_a_number place at e =
+      let bytes = codes "{\"pageCount\":1.5x" in (
         up_to_pages,
         16,
         e,
+        omega arith,
         record {
           no_text = no_text bytes refl;
           front = record {
             within = omega arith;
-            begins = (codes "}", whole.0, (_, whole.1));
-            longest = λ less. absurd (omega (arith, less));
+            begins = (codes "}", pages_whole.0, (_, pages_whole.1));
+            longest = λ less x. no_tokens x.2.0 ((laws.told.completes (bytes ++ x.0) x.2.0).0 (x.1, x.2.1));
           };
-          tokens = are_tokens bytes (codes "}") up_to_pages behind whole.0
-              (ended bytes (codes "}") up_to_pages behind 16 (omega arith) refl
-              (λ h. omega (arith, h), (λ h. omega (arith, h), tt))) whole.1 (omega arith, (omega arith, tt));
+          tokens = pages_tokens;
         },
         pages_without_fault,
       )
 
-  -- of `{"pageCount":1.5 ` it has, and is no integer
-  pub blank_behind_a_number : (place at : ℕ) → at ≡ saturated (place + 13)
-      → IsBodyFault books book None place (codes "{\"pageCount\":1.5 ") (Field at BadNumber)
-  blank_behind_a_number place at e = (
+  -- of `{"pageCount":1.5 ` it has, and is no integer, whatever follows
+  pub blank_shown_behind_a_number : (place at : ℕ) → at ≡ saturated (place + 13)
+      → IsFrontFault books book None place (codes "{\"pageCount\":1.5 ") (Field at BadNumber)
+  blank_shown_behind_a_number place at e = (
     up_to_pages ++ with_token (digits (codes "1.5")) 13 16 [],
-    inl (ended (codes "{\"pageCount\":1.5 ") (codes "}") (up_to_pages ++ with_token (digits (codes "1.5")) 13 16 [])
+    ended (codes "{\"pageCount\":1.5 ") (codes "}") (up_to_pages ++ with_token (digits (codes "1.5")) 13 16 [])
         (with_token (closes Object) 17 18 []) 17 (omega arith) refl
-        (λ h. omega (arith, h), (λ h. omega (arith, h), (λ h. omega (arith, h), tt)))),
+        (λ h. omega (arith, h), (λ h. omega (arith, h), (λ h. omega (arith, h), tt))),
     record {
       before = up_to_pages;
       token = record { mark = digits (codes "1.5"); from = 13; to = 16 };
@@ -239,10 +286,16 @@ module _ (laws : ExampleLaws) where
     },
   )
 
+  pub blank_behind_a_number : (place at : ℕ) → at ≡ saturated (place + 13)
+      → IsBodyFault books book None place (codes "{\"pageCount\":1.5 ") (Field at BadNumber)
+  blank_behind_a_number place at e =
+      front_is_whole books book None place (codes "{\"pageCount\":1.5 ") (Field at BadNumber)
+      (blank_shown_behind_a_number place at e)
+
   -- `{"lent":true}x` goes on behind a text
-  pub behind_a_text : (place at : ℕ) → at ≡ saturated (place + 13)
-      → IsBodyFault books book None place (codes "{\"lent\":true}x") (Syntax at)
-  behind_a_text place at e =
+  pub shown_behind_a_text : (place at : ℕ) → at ≡ saturated (place + 13)
+      → IsFrontFault books book None place (codes "{\"lent\":true}x") (Syntax at)
+  shown_behind_a_text place at e =
       let bytes = codes "{\"lent\":true}x" in
       let all =
       with_token (opens Object) 0 1 (with_token (key (codes "lent")) 1 7
@@ -251,6 +304,7 @@ module _ (laws : ExampleLaws) where
         all,
         13,
         e,
+        omega arith,
         record {
           no_text = no_text bytes refl;
           front = record {
@@ -267,3 +321,20 @@ module _ (laws : ExampleLaws) where
             (laws.readings books book None).begins_none (marks_of all) f h
             (one_pair (codes "lent") (literal names.True), _, _, refl, refl),
       )
+
+  pub behind_a_text : (place at : ℕ) → at ≡ saturated (place + 13)
+      → IsBodyFault books book None place (codes "{\"lent\":true}x") (Syntax at)
+  behind_a_text place at e =
+      front_is_whole books book None place (codes "{\"lent\":true}x") (Syntax at) (shown_behind_a_text place at e)
+
+  -- what shows no fault, where bytes whose ended tokens have none do not
+  module _ (sound : (c : Schema) (id : TypeId) (n : Option ℕ) (place : ℕ) (bytes : List ℕ) (ts : List Span)
+      → AreTokensOf bytes ts → HasNoFault c id n ts → ShowsNoFault c id n place bytes) (place : ℕ) where
+    -- no byte
+    pub nothing_shown : ShowsNoFault books book None place []
+    nothing_shown = sound books book None place [] [] no_token nothing_without_fault
+
+    -- a number that may go on
+    pub no_number_shown : ShowsNoFault books book None place (codes "{\"pageCount\":1.5")
+    no_number_shown =
+        sound books book None place (codes "{\"pageCount\":1.5") up_to_pages pages_tokens pages_without_fault

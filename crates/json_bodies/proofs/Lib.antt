@@ -4,7 +4,9 @@ pub mod BodyLemmas
 pub mod TakenLemmas
 -- Any bytes mean a value, or have a fault (`every_text_has_an_outcome`).
 pub mod EachBody
--- A fault that is told before bytes end stays, whatever follows (`faults_before_the_end_stay`).
+-- Bytes show at most one first fault before they end, or none (`read_front`, `one_front_fault`, `fronts_are_decided`).
+pub mod FrontLemmas
+-- A fault that bytes show before they end stays, whatever follows (`front_faults_stay`).
 mod StayLemmas
 -- Worked bodies, by the reader's machine (`body_faults`).
 pub mod ExampleFacts

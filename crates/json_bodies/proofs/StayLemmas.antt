@@ -1,12 +1,15 @@
--- A fault that is told before bytes end stays, whatever follows.
-use Rattle.std.proofs.Common.{◌≡◌, ◌<◌, ◌+◌, inl, arith, sym, subst, refl, append-nil, ℕ, List, [], ◌++◌, length, take, drop, Option}
+-- A fault that bytes show before they end stays, whatever follows.
+use Rattle.std.proofs.Common.{◌≡◌, ◌<◌, ◌+◌, inl, arith, sym, subst, append-nil, ℕ, List, [], ◌++◌, length, take, drop, Option}
 use Rattle.std.proofs.lemmas.List.{length-append, take-append-drop, take-append-le}
 use Rattle.json_events.specs.JsonText.{BeginsText, IsTextOf, IsTextWith, Span}
 use Rattle.json_events.specs.JsonTokens.{AreTokensOf, BeginsWith, HaveEndedIn}
 use Rattle.json_events.specs.JsonTree.{Json}
 use Rattle.json_meanings.specs.JsonScalars.{Schema}
 use Rattle.message_types.specs.declared.messages.TypeId.{TypeId}
-use Rattle.json_bodies.specs.WholeMessages.{FaultsStay, StopsAt}
+use Rattle.json_bodies.specs.FrontFaults.{FaultStays, IsFrontFault}
+use Rattle.json_bodies.specs.WholeMessages.{StopsAt}
+use Rattle.json_bodies.specs.declared.fault.BodyFault.{BodyFault}
+use Rattle.json_bodies.specs.declared.fault.BodyFault.TheVariants.{Field, Syntax, NoMemory}
 
 -- what has ended in bytes has ended in more
 ended_more : (bytes more : List ℕ) (ts : List Span) → HaveEndedIn bytes ts → HaveEndedIn (bytes ++ more) ts
@@ -43,8 +46,15 @@ module _ (fronts : (p s : List ℕ) → BeginsText (p ++ s) → BeginsText p) (b
       }
 
   -- both kinds of faults
-  pub faults_stay : (c : Schema) (id : TypeId) (n : Option ℕ) (place : ℕ) → FaultsStay c id n place bytes more
-  faults_stay c id n place = record {
-    field = λ ts at kind ended fault. (ts, inl (ended_more bytes more ts ended), fault);
-    text = λ ts k less stops none. (ts, k, refl, stops_more ts k less stops, none);
-  }
+  pub front_fault_stays : (c : Schema) (id : TypeId) (n : Option ℕ) (place : ℕ) (f : BodyFault)
+      → IsFrontFault c id n place bytes f → FaultStays c id n place bytes more f
+  front_fault_stays c id n place (Field at kind) h =
+      let ended = ended_more bytes more h.0 h.1 in
+      record { shown = (h.0, ended, h.2); whole = (h.0, inl ended, h.2) }
+  front_fault_stays c id n place (Syntax at) h =
+      let stops = stops_more h.0 h.1 h.3 h.4 in
+      record {
+        shown = (h.0, h.1, h.2, omega (arith, h.3, length-append bytes more), stops, h.5);
+        whole = (h.0, h.1, h.2, stops, h.5);
+      }
+  front_fault_stays c id n place NoMemory h = absurd h

@@ -15,11 +15,12 @@ use Rattle.json_events.specs.declared.token.Fed.{Fed}
 use Rattle.json_events.specs.declared.token.Spanned.{Spanned}
 use Rattle.json_meanings.specs.FieldFaults.{BeginsTree, tree_tokens}
 use Rattle.json_meanings.specs.JsonScalars.{Schema}
+use Rattle.json_meanings.specs.declared.fault.FieldKind.{FieldKind}
 use Rattle.json_meanings.specs.TokenNesting.{nesting_limit}
 use Rattle.message_types.specs.declared.messages.TypeId.{TypeId}
-use Rattle.json_bodies.specs.BodySteps.{HasTaken, HasTakenAll, IsBodyRefusal, of_text, of_token}
+use Rattle.json_bodies.specs.BodySteps.{HasTaken, HasTakenAll, IsBodyRefusal, IsFrontRefusal, of_text, of_token}
 use Rattle.protojson_read.specs.BuilderReads.{IsTokenFault, Reads}
-use Rattle.json_bodies.specs.WholeMessages.{AreBodyTokens, HasNoFault, IsBodyReading}
+use Rattle.json_bodies.specs.WholeMessages.{AreBodyTokens, HasNoFault, IsBodyReading, IsFaultAt}
 use Rattle.protojson_read.specs.declared.builder.Builder.{Builder}
 use Rattle.json_bodies.specs.declared.fault.BodyFault.{BodyFault}
 use Rattle.json_bodies.specs.declared.fault.BodyFault.TheVariants as bodies
@@ -96,25 +97,39 @@ next_begins begins new bytes taken ts token x =
 twice : (place a b : ℕ) → b ≡ saturated a → saturated (place + b) ≡ saturated (place + a)
 twice place a b e = omega (arith, e)
 
--- the builder refused a token of a body
+-- the builder refused the last of the tokens
+fault_of_token : (c : Schema) (id : TypeId) (n : Option ℕ) (place : ℕ) (ts : List Span) (span : Span)
+    (token : Spanned) (p : ℕ) (k : FieldKind) → span.mark ≡ mark_seen token.token → token.from ≡ saturated span.from
+    → IsTokenFault (fields.At p k) (saturated (place + token.from)) c id n (marks_of ts) (mark_seen token.token)
+    → IsFaultAt c id n place (ts ++ span ∷ []) p k
+fault_of_token c id n place ts span token p k mark from h = record {
+  before = ts;
+  token = span;
+  behind = [];
+  split = refl;
+  first = rw (sym (length-marks_of ts), sym (marks_with ts span (mark_seen token.token) mark)) h.1;
+  at_is = h.0 ∙ twice place span.from token.from from;
+}
+
+-- one that has ended in the bytes
+pub refused_front_token : (c : Schema) (id : TypeId) (n : Option ℕ) (place : ℕ) (bytes : List ℕ) (ts : List Span)
+    (span : Span) (token : Spanned) (f : FieldFault) → span.mark ≡ mark_seen token.token
+    → token.from ≡ saturated span.from → HaveEndedIn bytes (ts ++ span ∷ [])
+    → IsTokenFault f (saturated (place + token.from)) c id n (marks_of ts) (mark_seen token.token)
+    → IsFrontRefusal c id n place bytes (of_token f)
+refused_front_token c id n place bytes ts span token fields.NoMemory mark from ended h = tt
+refused_front_token c id n place bytes ts span token (fields.At p k) mark from ended h =
+    (ts ++ span ∷ [], ended, fault_of_token c id n place ts span token p k mark from h)
+
+-- one of a body
 pub refused_token : (c : Schema) (id : TypeId) (n : Option ℕ) (place : ℕ) (bytes : List ℕ) (ts : List Span)
     (span : Span) (token : Spanned) (f : FieldFault) → span.mark ≡ mark_seen token.token
     → token.from ≡ saturated span.from → AreBodyTokens bytes (ts ++ span ∷ [])
     → IsTokenFault f (saturated (place + token.from)) c id n (marks_of ts) (mark_seen token.token)
     → IsBodyRefusal c id n place bytes (of_token f)
 refused_token c id n place bytes ts span token fields.NoMemory mark from are h = tt
-refused_token c id n place bytes ts span token (fields.At p k) mark from are h = (
-  ts ++ span ∷ [],
-  are,
-  record {
-    before = ts;
-    token = span;
-    behind = [];
-    split = refl;
-    first = rw (sym (length-marks_of ts), sym (marks_with ts span (mark_seen token.token) mark)) h.1;
-    at_is = h.0 ∙ twice place span.from token.from from;
-  },
-)
+refused_token c id n place bytes ts span token (fields.At p k) mark from are h =
+    (ts ++ span ∷ [], are, fault_of_token c id n place ts span token p k mark from h)
 
 -- the reader took the last bytes, which end no token
 pub taken_all : (old new : ReaderState) (b : Builder) (c : Schema) (id : TypeId) (n : Option ℕ) (place : ℕ)
@@ -138,11 +153,11 @@ taken_all old new b c id n place bytes taken rest fed split none count h on fres
     }
 
 -- what begins a text with tokens begins one
-begins_text : (bytes : List ℕ) (ts : List Span) → BeginsWith bytes ts → BeginsText bytes
+pub begins_text : (bytes : List ℕ) (ts : List Span) → BeginsWith bytes ts → BeginsText bytes
 begins_text bytes ts h = (h.0, h.2, (ts ++ h.1, h.3))
 
 -- a text begins one
-text_begins : (bytes : List ℕ) (j : Json) → IsTextOf j bytes → BeginsText bytes
+pub text_begins : (bytes : List ℕ) (j : Json) → IsTextOf j bytes → BeginsText bytes
 text_begins bytes j x = ([], j, (x.0, subst (λ (l : List ℕ). IsTextWith j l x.0) (sym (append-nil bytes)) x.1))
 
 -- the reader refused the bytes: no text goes on so
@@ -153,11 +168,11 @@ pub refused_bytes : (shorter : (bytes : List ℕ) (k m : ℕ) → k ≤ m → Be
     (old : ReaderState) (b : Builder) (c : Schema) (id : TypeId) (n : Option ℕ) (place : ℕ)
     (bytes taken rest : List ℕ) (f : JsonFault) → taken ++ rest ≡ bytes
     → (h : HasTaken old b c id n place bytes taken) → HasNoFault c id n h.tokens → level h.tokens ≤ nesting_limit
-    → (old.fault ≡ None → IsFeedFault f old rest) → IsBodyRefusal c id n place bytes (of_text place f)
+    → (old.fault ≡ None → IsFeedFault f old rest) → IsFrontRefusal c id n place bytes (of_text place f)
 refused_bytes shorter longest old b c id n place bytes taken rest f split h none few faulty =
     by_fault f (subst (λ (l : List ℕ). IsFaultOf f l h.tokens) split (faulty h.fresh taken h.tokens h.stands))
   where
-    by_fault : (f : JsonFault) → IsFaultOf f bytes h.tokens → IsBodyRefusal c id n place bytes (of_text place f)
+    by_fault : (f : JsonFault) → IsFaultOf f bytes h.tokens → IsFrontRefusal c id n place bytes (of_text place f)
     by_fault faults.NoMemory x = tt
     by_fault (faults.TooDeep p) x =
         absurd (omega (arith, few, x.2.full))
@@ -168,6 +183,7 @@ refused_bytes shorter longest old b c id n place bytes taken rest f split h none
           h.tokens,
           k,
           twice place k p x.1,
+          broken.within,
           record {
             no_text = λ j text. front.1 (shorter bytes (k + 1) (length bytes) (omega (arith, broken.within))
                 (subst BeginsText (sym (take-length bytes)) (text_begins bytes j text)));

@@ -4,6 +4,7 @@ use Rattle.schema.specs.declared.value.Item.TheOpen.{Truth}
 use Rattle.json_meanings.specs.ExampleTypes.{book, books, only}
 use Rattle.json_meanings.specs.TextMeanings.{BytesMean}
 use Rattle.json_meanings.specs.declared.fault.FieldKind.TheVariants.{BadNumber, NullInside, WrongShape}
+use Rattle.json_bodies.specs.FrontFaults.{IsFrontFault, ShowsNoFault}
 use Rattle.json_bodies.specs.WholeMessages.{IsBodyFault}
 use Rattle.json_bodies.specs.declared.fault.BodyFault.TheVariants.{Field, Syntax}
 
@@ -41,3 +42,20 @@ pub record PlacedFaultsHold : Type 0 where
   pub behind_a_text : IsBodyFault books book None 100 (codes "{\"lent\":true}x") (Syntax 113)
   -- places stop at the last number of 64 bits
   pub last_place : IsBodyFault books book None (2 ^ 64 - 6) (codes "{\"lent\":true}x") (Syntax (2 ^ 64 - 1))
+
+-- what bytes show before they end, of which the first stands at a place
+pub record FrontFaultsHold : Type 0 where
+  -- no byte
+  pub empty : ShowsNoFault books book None 0 []
+  -- a number that has not ended: the byte behind it may go on with it
+  pub cut_behind_a_number : ShowsNoFault books book None 0 (codes "{\"pageCount\":1.5")
+  -- one that has ended, since a blank behind it shows that
+  pub blank_behind_a_number : IsFrontFault books book None 0 (codes "{\"pageCount\":1.5 ") (Field 13 BadNumber)
+  -- one that has not: no text goes on so
+  pub letter_behind_a_number : IsFrontFault books book None 0 (codes "{\"pageCount\":1.5x") (Syntax 16)
+  -- a name, which ends with its last letter
+  pub null_for_a_book : IsFrontFault books book None 0 (codes " null") (Field 1 WrongShape)
+  -- a byte behind a text
+  pub behind_a_text : IsFrontFault books book None 0 (codes "{\"lent\":true}x") (Syntax 13)
+  -- and one behind 100 others
+  pub behind_a_placed_text : IsFrontFault books book None 100 (codes "{\"lent\":true}x") (Syntax 113)

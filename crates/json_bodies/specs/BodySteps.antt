@@ -11,6 +11,7 @@ use Rattle.json_meanings.specs.FieldFaults.{tree_tokens}
 use Rattle.json_meanings.specs.JsonScalars.{Schema}
 use Rattle.message_types.specs.declared.messages.TypeId.{TypeId}
 use Rattle.protojson_read.specs.BuilderReads.{Reads}
+use Rattle.json_bodies.specs.FrontFaults.{IsFrontFault}
 use Rattle.json_bodies.specs.WholeMessages.{IsBodyFault}
 use Rattle.protojson_read.specs.declared.builder.Builder.{Builder}
 use Rattle.json_bodies.specs.declared.fault.BodyFault.{BodyFault}
@@ -27,6 +28,11 @@ pub record HasTaken (r : ReaderState) (b : Builder) (c : Schema) (id : TypeId) (
   pub ended : HaveEndedIn bytes tokens
   pub fresh : r.fault ≡ None
   pub reads : Reads b c id n place (marks_of tokens)
+
+-- the first fault that bytes show before they end; out of memory is free
+abbrev pub IsFrontRefusal : Schema → TypeId → Option ℕ → ℕ → List ℕ → BodyFault → Type 0
+IsFrontRefusal c id n place bytes NoMemory = ⊤
+IsFrontRefusal c id n place bytes fault = IsFrontFault c id n place bytes fault
 
 -- the fault of bytes; out of memory is free
 abbrev pub IsBodyRefusal : Schema → TypeId → Option ℕ → ℕ → List ℕ → BodyFault → Type 0

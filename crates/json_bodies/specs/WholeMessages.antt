@@ -85,14 +85,3 @@ pub record HasOneOutcome (c : Schema) (id : TypeId) (n : Option ℕ) (place : �
 abbrev pub HasOutcome : Schema → TypeId → Option ℕ → ℕ → List ℕ → Type 0
 HasOutcome c id n place bytes =
     ((v : Value) × BytesMean c id n bytes v) ⊎ ((f : BodyFault) × IsBodyFault c id n place bytes f)
-
--- a fault that is told before the bytes end stays, whatever follows
-pub record FaultsStay (c : Schema) (id : TypeId) (n : Option ℕ) (place : ℕ) (bytes more : List ℕ) : Type 0 where
-  -- that of a token that has ended in them
-  pub field :
-      (ts : List Span) (at : ℕ) (kind : FieldKind) → HaveEndedIn bytes ts → IsFaultAt c id n place ts at kind
-      → IsBodyFault c id n place (bytes ++ more) (Field at kind)
-  -- that of a byte with which no text goes on
-  pub text :
-      (ts : List Span) (k : ℕ) → k < length bytes → StopsAt bytes ts k → HasNoFault c id n ts
-      → IsBodyFault c id n place (bytes ++ more) (Syntax (saturated (place + k)))

@@ -1,6 +1,7 @@
 //! Worked examples, as laws.
-ghost use Rattle.json_bodies.specs.BodyExamples.{BodyFaultsHold, BodyMeaningsHold, PlacedFaultsHold};
+ghost use Rattle.json_bodies.specs.BodyExamples.{BodyFaultsHold, BodyMeaningsHold, FrontFaultsHold, PlacedFaultsHold};
 
+use crate::laws::sound_fronts_show_no_fault;
 use json_events::Reader;
 use json_events::laws::{
     bytes_have_one_list_of_tokens, fronts_have_one_list_of_tokens, written_texts_mean_their_values,
@@ -23,5 +24,16 @@ pub fn body_faults(alloc: Global)
     readings_hold();
     fronts_have_one_list_of_tokens();
     bytes_have_one_list_of_tokens();
+    let _reader = Reader::new(alloc);
+}
+
+/// What bytes show before they end.
+pub fn front_faults(alloc: Global)
+    ensures { FrontFaultsHold }
+{
+    readings_hold();
+    fronts_have_one_list_of_tokens();
+    bytes_have_one_list_of_tokens();
+    sound_fronts_show_no_fault();
     let _reader = Reader::new(alloc);
 }

@@ -1,5 +1,5 @@
 //! Bodies of JSON that are read as messages, from a place on.
-use crate::{BodyFault, FieldKind, read_body};
+use crate::{BodyFault, FieldKind, read_body, read_front};
 use base::{List, NoMemory, Text};
 use field_index::IndexedTypes;
 use schema::{Field, Item, Kind, Known, MessageType, Presence, Scalar, Shape, Slot, TypeId, Types};
@@ -141,6 +141,54 @@ fn places_stop_at_the_last_number(rt: HostRuntime) -> Result<(), Fail> {
     );
     let cut = fault_of(alloc, &types, b"{", u64::MAX);
     assert!(rt; matches!(cut, Some(BodyFault::Syntax(u64::MAX))));
+    Ok(())
+}
+
+/// The fault that bytes show before they end, which are the first of a body that is to be one of a book.
+fn shown(alloc: Global, types: &IndexedTypes<'_>, front: &[u8], place: u64) -> Option<BodyFault> {
+    match read_front(alloc, types, TypeId(0), None, front, place) {
+        Ok(()) => None,
+        Err(fault) => Some(fault),
+    }
+}
+
+#[test]
+fn a_front_shows_what_its_bytes_tell(rt: HostRuntime) -> Result<(), Fail> {
+    let alloc = rt.alloc();
+    let declared = books(alloc)?;
+    let types = IndexedTypes::new(alloc, &declared)?;
+    for sound in [
+        "",
+        " ",
+        "{\"pages\":1.5",
+        "{\"pages\":-",
+        "{\"pages\":1}",
+        "{\"pages\":1} ",
+    ] {
+        assert!(rt; shown(alloc, &types, sound.as_bytes(), 0) == None);
+    }
+    let ended = shown(alloc, &types, b"{\"pages\":1.5 ", 0);
+    assert!(rt; ended == Some(BodyFault::Field(9, FieldKind::BadNumber)));
+    let name = shown(alloc, &types, b" null", 100);
+    assert!(rt; name == Some(BodyFault::Field(101, FieldKind::WrongShape)));
+    let broken = shown(alloc, &types, b"{\"pages\":1.5x", 0);
+    assert!(rt; broken == Some(BodyFault::Syntax(12)));
+    let behind = shown(alloc, &types, b"{\"pages\":1}x", 100);
+    assert!(rt; behind == Some(BodyFault::Syntax(111)));
+    Ok(())
+}
+
+#[test]
+fn a_front_of_one_field_has_no_end(rt: HostRuntime) -> Result<(), Fail> {
+    let alloc = rt.alloc();
+    let declared = books(alloc)?;
+    let types = IndexedTypes::new(alloc, &declared)?;
+    let cut = read_front(alloc, &types, TypeId(0), Some(1), b" 1.5", 0);
+    assert!(rt; cut == Ok(()));
+    let ended = read_front(alloc, &types, TypeId(0), Some(1), b" 1.5 ", 0);
+    assert!(rt; ended == Err(BodyFault::Field(1, FieldKind::BadNumber)));
+    let last = read_front(alloc, &types, TypeId(0), Some(1), b"true", u64::MAX);
+    assert!(rt; last == Err(BodyFault::Field(u64::MAX, FieldKind::WrongShape)));
     Ok(())
 }
 

@@ -1,7 +1,7 @@
 //! A whole body of JSON, read as a message.
 ghost use Rattle.std.specs.Prelude.{◌≡◌, ◌≢◌, ℕ, List, [], Option, IfErr, Err, OnOk};
 ghost use Rattle.message_types.specs.declared.messages.TypeId.{TypeId as TypeIdOf};
-ghost use Rattle.json_bodies.specs.BodySteps.{HasTaken, HasTakenAll, IsBodyRefusal, of_text, of_token};
+ghost use Rattle.json_bodies.specs.BodySteps.{HasTaken, HasTakenAll, IsBodyRefusal, IsFrontRefusal, of_text, of_token};
 ghost use Rattle.json_meanings.specs.KnownReadings.{schema_of};
 ghost use Rattle.json_bodies.specs.WholeMessages.{IsBodyAnswer, IsBodyReading};
 ghost use Rattle.json_bodies.specs.declared.fault.BodyFault.TheVariants.{NoMemory};
@@ -84,8 +84,9 @@ fn syntax_fault(place: u64, fault: JsonFault) -> BodyFault
     }
 }
 
-/// Takes the tokens that end in these bytes. The builder refuses what nests as deep as the reader bears.
-fn take_all(
+/// Takes the tokens that end in these bytes, up to the first fault that they show. The builder refuses what nests as
+/// deep as the reader bears.
+pub(crate) fn take_all(
     reader: &mut Reader,
     builder: &mut Builder,
     types: &IndexedTypes<'_>,
@@ -97,7 +98,7 @@ fn take_all(
         → HasTaken reader.new builder.new (schema_of types.now) id n place bytes.now bytes.now) }
     ensures err { IfErr result (λ f. (id : TypeIdOf) (n : Option ℕ)
         → HasTaken reader.old builder.old (schema_of types.now) id n place bytes.now []
-        → IsBodyRefusal (schema_of types.now) id n place bytes.now f) }
+        → IsFrontRefusal (schema_of types.now) id n place bytes.now f) }
 {
     taken_tokens_have_no_fault();
     taken_brackets_nest_within_a_limit();

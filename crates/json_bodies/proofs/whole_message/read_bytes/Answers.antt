@@ -1,6 +1,7 @@
 use Rattle.std.proofs.Common.{[]}
 use Rattle.std.proofs.lemmas.Result.{err_from_is_err_and}
 use Rattle.json_meanings.specs.KnownReadings.{schema_of}
+use Rattle.json_bodies.proofs.FrontLemmas.{front_refusal}
 use Rattle.json_bodies.proofs.TakenLemmas.{refused_reading, taken_nothing}
 use Rattle.json_bodies.proofs.whole_message.read_bytes.Goals as goal
 
@@ -16,7 +17,9 @@ returns-in_err-take_all c =
     let back = c.from_residual-in_err-take_all in
     let p = err_from_is_err_and back.result back.ensures.1 in
     rw (p.1, p.2)
-    (refused_reading d c.args.id c.args.part c.args.place bytes _ (c.in_err-take_all.ensures.err c.args.id c.args.part start))
+    (refused_reading d c.args.id c.args.part c.args.place bytes _
+    (front_refusal d c.args.id c.args.part c.args.place bytes _
+    (c.in_err-take_all.ensures.err c.args.id c.args.part start)))
 
 pub returns-in_err-end : goal.returns-in_err-end
 returns-in_err-end c =

@@ -1,10 +1,10 @@
-use Rattle.std.proofs.Common.{◌++◌, ◌≤◌, inl, subst, sym, take}
+use Rattle.std.proofs.Common.{◌++◌, ◌≤◌, subst, sym, take}
 use Rattle.json_events.specs.JsonText.{marks_of}
 use Rattle.json_meanings.specs.TokenNesting.{nesting_limit}
-use Rattle.json_bodies.specs.BodySteps.{IsBodyRefusal}
+use Rattle.json_bodies.specs.BodySteps.{IsFrontRefusal}
 use Rattle.json_meanings.specs.KnownReadings.{schema_of}
 use Rattle.json_bodies.proofs.BodyLemmas.{shorter_front}
-use Rattle.json_bodies.proofs.TakenLemmas.{left_over, next_begins, next_given, refused_bytes, refused_token, taken_all, taken_next}
+use Rattle.json_bodies.proofs.TakenLemmas.{left_over, next_begins, next_given, refused_bytes, refused_front_token, taken_all, taken_next}
 use Rattle.json_bodies.proofs.whole_message.take_all.Goals as goal
 
 pub returns-in-Err-clause-err : goal.returns-in-Err-clause-err
@@ -12,7 +12,7 @@ returns-in-Err-clause-err c id n h =
     let d = schema_of c.args.types.now in
     let i = c.taking.invariant in
     let t = i.told id n h in
-    subst (IsBodyRefusal d id n c.args.place c.args.bytes.now) (sym c.syntax_fault.ensures)
+    subst (IsFrontRefusal d id n c.args.place c.args.bytes.now) (sym c.syntax_fault.ensures)
     (refused_bytes (shorter_front c.fronts_have_one_list_of_tokens.ensures.fronts)
     c.faults_have_the_place_of_the_longest_front.ensures.tokens c.taking.reader c.taking.builder d id n c.args.place
     c.args.bytes.now i.taken c.taking.rest.now c.in-Err.fault i.split t
@@ -43,8 +43,8 @@ returns-in-Err-take-clause-err c id n h =
     next_begins c.texts_have_the_tokens_of_trees.ensures.begins c.feed.new.self c.args.bytes.now
     (i.taken ++ take fed.taken rest) t.tokens token x in
     let refuses = rw c.in-Some.is at (c.in-Err-take.ensures.err id n c.args.place (marks_of t.tokens) t.reads) in
-    subst (IsBodyRefusal d id n c.args.place c.args.bytes.now) (sym c.field_fault.ensures)
-    (refused_token d id n c.args.place c.args.bytes.now t.tokens x.span token c.in-Err-take.fault x.mark x.from (inl x.ended)
+    subst (IsFrontRefusal d id n c.args.place c.args.bytes.now) (sym c.field_fault.ensures)
+    (refused_front_token d id n c.args.place c.args.bytes.now t.tokens x.span token c.in-Err-take.fault x.mark x.from x.ended
     (refuses begins))
 
 pub taking-preserved : goal.taking-preserved
