@@ -1,0 +1,7 @@
+use Rattle.base.proofs.ExtendsLemmas.{on_any, extends_more}
+use Rattle.http1_answers.proofs.refusal_answer.write_lines.Goals as goal
+
+pub returns-in_err-write_text_lines-clause-err : goal.returns-in_err-write_text_lines-clause-err
+returns-in_err-write_text_lines-clause-err c =
+    on_any c.from_residual-in_err-write_text_lines.result
+    (extends_more _ _ _ (_, c.in_ok-write_status.ensures.ok) c.in_err-write_text_lines.ensures.err)
