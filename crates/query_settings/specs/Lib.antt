@@ -1,0 +1,10 @@
+pub use Rattle.field_settings.specs.AppliedSettings
+pub use Rattle.leaf_texts.specs.LeafTexts
+pub use Rattle.query_parameters.specs.QueryParameters
+pub use Rattle.schema.specs.Soundness
+pub mod QueryTargets
+pub mod ParameterFaults
+pub mod QuerySettings
+pub mod QueryScopes
+pub mod QuerySteps
+pub mod QueryLaws
